@@ -1,0 +1,4 @@
+pub mod Endians
+pub mod Pigeons
+pub mod Places
+pub mod Sweeps
