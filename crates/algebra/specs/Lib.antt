@@ -1,1 +1,7 @@
+pub mod Binary
+pub mod Fields
 pub mod Gf256
+pub mod Prime
+pub mod Rings
+pub mod Sums
+pub mod Theorems

@@ -1,7 +1,8 @@
-// Finite fields.
-ghost use mathlib.Core.Path.{_≡_};
-ghost use Rattle.algebra.specs.Gf256.{times};
+// Finite fields: the trait, the two fields that keep its laws, sums over any field, and what holds over every field.
+mod elements;
+pub mod field;
+pub mod theorems;
 
-pub fn stub() -> u8 {
-    0
-}
+pub use elements::Gf256;
+pub use elements::Mod251;
+pub use field::Field;

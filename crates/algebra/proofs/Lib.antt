@@ -1,0 +1,5 @@
+pub mod Counts
+pub mod Domains
+pub mod Equations
+pub mod Roots
+pub mod Sums
