@@ -1,4 +1,5 @@
 // Finite fields: the trait, the two fields that keep its laws, sums over any field, and what holds over every field.
+pub mod binary;
 mod elements;
 pub mod field;
 pub mod theorems;

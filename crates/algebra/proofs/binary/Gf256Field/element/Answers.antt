@@ -1,0 +1,6 @@
+use mathlib.Core.Path.{refl}
+use Rattle.algebra.proofs.Binaries.{same}
+use Rattle.algebra.proofs.binary.Gf256Field.element.Needs as need
+
+pub returns : need.returns
+returns c = same _ _ refl
