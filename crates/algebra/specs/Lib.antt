@@ -1,4 +1,5 @@
 pub mod Binary
+pub mod Examples
 pub mod Fields
 pub mod Gf256
 pub mod Prime

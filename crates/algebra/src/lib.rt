@@ -2,6 +2,8 @@
 pub mod binary;
 mod elements;
 pub mod field;
+pub mod prime;
+pub mod sums;
 pub mod theorems;
 
 pub use elements::Gf256;

@@ -1,4 +1,5 @@
 // What holds over every field, from its laws alone. Each function does nothing; its contract is a theorem, and later proofs cite it.
+ghost use Rattle.algebra.specs.Examples.{ProductExample, SamplingExample};
 ghost use Rattle.algebra.specs.Fields.{ZeroProduct};
 ghost use Rattle.algebra.specs.Rings.{RingEquations};
 ghost use Rattle.algebra.specs.Theorems.{SumsLinear, FewRoots, FewSolutions};
@@ -35,6 +36,14 @@ pub fn few_roots<F: Field>() -> u8
 // Of all lists of elements, at most one in `size` meets a linear condition with a coefficient other than zero.
 pub fn few_solutions<F: Field>() -> u8
     ensures { λ _. ⌜ FewSolutions (F·Field .ops) ⌝ }
+{
+    0
+}
+
+// The worked examples of the two fields.
+pub fn field_examples() -> u8
+    ensures product { λ _. ⌜ ProductExample ⌝ }
+    ensures sampling { λ _. ⌜ SamplingExample ⌝ }
 {
     0
 }

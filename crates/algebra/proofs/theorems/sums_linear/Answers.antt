@@ -1,4 +1,4 @@
-use Rattle.algebra.proofs.Sums.{sums-linear}
+use Rattle.algebra.proofs.Linear.{sums-linear}
 use Rattle.algebra.proofs.theorems.sums_linear.Needs as need
 
 pub returns : need.returns

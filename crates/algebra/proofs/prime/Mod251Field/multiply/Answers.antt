@@ -1,0 +1,6 @@
+use mathlib.Core.Path.{refl}
+use Rattle.algebra.proofs.Primes.{same}
+use Rattle.algebra.proofs.prime.Mod251Field.multiply.Needs as need
+
+pub returns : need.returns
+returns c = same _ _ refl
