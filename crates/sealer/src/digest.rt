@@ -1,0 +1,50 @@
+// The digest of a message, which a seal binds: H(01, message).
+use crate::failure::Failure;
+use crate::failure::FailureFromAlloc;
+use crate::failure::FailureFromIo;
+use sponge::Hasher;
+use std::fs::File;
+use std::io;
+use std::io::Read;
+
+// The first byte of what is hashed for a message, so that no other hash of the seal can be mistaken for it.
+pub const MESSAGE_TAG: u8 = 0x01;
+
+const PIECE: usize = 65536;
+
+// Reads to the end, piece by piece, so that the memory does not grow with the message.
+pub fn of_reader<R: Read>(reader: &mut R) -> io::Result<[u8; 32]> {
+    let mut piece = [0u8; PIECE];
+    let mut hasher = Hasher::new(MESSAGE_TAG);
+    for _ in 0..u64::MAX {
+        let n = reader.read(&mut piece)?;
+        if n == 0 {
+            break;
+        }
+        hasher.update(&piece[0..n]);
+    }
+    Ok(hasher.finish())
+}
+
+fn of_file(rt: &LibcRuntime, name: &str) -> io::Result<[u8; 32]> {
+    if name == "-" {
+        of_reader(&mut rt.stdin())
+    } else {
+        of_reader(&mut File::open(rt, name)?)
+    }
+}
+
+// Prints the digest and the name of a file.
+pub fn print(rt: &LibcRuntime, name: &str) -> Result<(), Failure> {
+    match of_file(rt, name) {
+        Ok(digest) => {
+            let text = hex::encode(rt.alloc(), &digest)?;
+            println!(rt, "{text}  {name}")?;
+            Ok(())
+        }
+        Err(e) => {
+            eprintln!(rt, "sealer: cannot read {name}: {e}")?;
+            Err(Failure::Said)
+        }
+    }
+}
