@@ -28,19 +28,28 @@ fn fields(rt: &LibcRuntime) -> Result<(), Failure> {
     let b = Gf256::element(0x83);
     let product = a.multiply(b).number();
     let back = a.multiply(b).multiply(b.invert()).number();
-    println!(rt, "  of 256 elements: 57 times 83 is {product:x}, and that divided by 83 is {back:x}")?;
+    println!(
+        rt,
+        "  of 256 elements: 57 times 83 is {product:x}, and that divided by 83 is {back:x}"
+    )?;
     let c = Mod251::element(200);
     let d = Mod251::element(100);
     let sum = c.add(d).number();
     let times = c.multiply(d).number();
-    println!(rt, "  modulo 251: 200 plus 100 is {sum}, and 200 times 100 is {times}")?;
+    println!(
+        rt,
+        "  modulo 251: 200 plus 100 is {sum}, and 200 times 100 is {times}"
+    )?;
     let mut bytes = [0u8; 16];
     bytes[0] = 251;
     bytes[1] = 255;
     bytes[2] = 7;
     let (element, used) = Mod251::sample(&bytes);
     let number = element.number();
-    println!(rt, "  modulo 251: the bytes 251, 255, 7 are sampled to {number}, with {used} of them used")?;
+    println!(
+        rt,
+        "  modulo 251: the bytes 251, 255, 7 are sampled to {number}, with {used} of them used"
+    )?;
     Ok(())
 }
 
@@ -71,7 +80,11 @@ fn hash(rt: &LibcRuntime) -> Result<(), Failure> {
     hasher.update(back);
     let agree = hasher.finish() == whole;
     let text = hex::encode(rt.alloc(), &whole)?;
-    println!(rt, "  the message of {} bytes has the digest", MESSAGE.len())?;
+    println!(
+        rt,
+        "  the message of {} bytes has the digest",
+        MESSAGE.len()
+    )?;
     println!(rt, "  {text}")?;
     println!(rt, "  taken in two pieces, it has the same digest: {agree}")?;
     Ok(())
@@ -86,7 +99,10 @@ fn refuse(rt: &LibcRuntime) -> Result<(), Failure> {
         Ok(()) => println!(rt, "  a sponge that had turned took more bytes")?,
         Err(refusal) => {
             let number = refusal.number();
-            println!(rt, "  a sponge that had turned refused more bytes with {number}: {refusal}")?
+            println!(
+                rt,
+                "  a sponge that had turned refused more bytes with {number}: {refusal}"
+            )?
         }
     }
     Ok(())

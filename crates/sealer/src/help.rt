@@ -5,18 +5,33 @@ use refusal::Refusal;
 use refusal::RefusalDisplay;
 
 pub fn print(rt: &LibcRuntime) -> Result<(), Failure> {
-    println!(rt, "sealer makes and checks seals for documents that must hold for decades.")?;
+    println!(
+        rt,
+        "sealer makes and checks seals for documents that must hold for decades."
+    )?;
     println!(rt, "")?;
-    println!(rt, "  sealer digest FILE ..   the digest of each file that a seal binds; - is standard input")?;
-    println!(rt, "  sealer refusals         the numbers with which calls are refused, and what they mean")?;
-    println!(rt, "  sealer demo             a tour of what there is, from beginning to end")?;
+    println!(
+        rt,
+        "  sealer digest FILE ..   the digest of each file that a seal binds; - is standard input"
+    )?;
+    println!(
+        rt,
+        "  sealer refusals         the numbers with which calls are refused, and what they mean"
+    )?;
+    println!(
+        rt,
+        "  sealer demo             a tour of what there is, from beginning to end"
+    )?;
     println!(rt, "  sealer help             this page")?;
     println!(rt, "")?;
     println!(rt, "Examples:")?;
     println!(rt, "  sealer digest plan.txt")?;
     println!(rt, "  cat plan.txt | sealer digest -")?;
     println!(rt, "")?;
-    println!(rt, "It ends with status 0 when all was done, and with 1 after saying on standard error what was not.")?;
+    println!(
+        rt,
+        "It ends with status 0 when all was done, and with 1 after saying on standard error what was not."
+    )?;
     Ok(())
 }
 

@@ -23,7 +23,10 @@ fn run(rt: &LibcRuntime) -> Result<(), Failure> {
         "demo" => demo::run(rt),
         "digest" => {
             let Some(first) = words.next() else {
-                return failure::usage(rt, "digest wants the name of a file, or - for standard input");
+                return failure::usage(
+                    rt,
+                    "digest wants the name of a file, or - for standard input",
+                );
             };
             digest::print(rt, first.as_str())?;
             for file in words {

@@ -14,9 +14,26 @@ pub enum Case {
 
 pub fn run(heap: Global, line: &str) -> Case {
     let mut words = line.split(' ');
-    match (words.next(), words.next(), words.next(), words.next(), words.next()) {
-        (Some("aes128"), Some(key), Some(block), Some(answer), None) => encipher(heap, key, block, answer),
-        (Some("shake256"), Some(message), Some(taken), Some(given), Some(answer)) => hash(heap, message, taken, given, answer),
+    match (
+        words.next(),
+        words.next(),
+        words.next(),
+        words.next(),
+        words.next(),
+    ) {
+        (Some("aes128"), Some(key), Some(block), Some(answer), None) => encipher(
+            heap,
+            key,
+            block,
+            answer,
+        ),
+        (Some("shake256"), Some(message), Some(taken), Some(given), Some(answer)) => hash(
+            heap,
+            message,
+            taken,
+            given,
+            answer,
+        ),
         _ => Case::Unreadable,
     }
 }
@@ -41,7 +58,11 @@ fn encipher(heap: Global, key: &str, plain: &str, answer: &str) -> Case {
     let (Some(key), Some(plain)) = (block(&key), block(&plain)) else {
         return Case::Unreadable;
     };
-    if Aes128::new(&key).encrypt(&plain) == *answer.as_slice() { Case::Cipher } else { Case::Differs }
+    if Aes128::new(&key).encrypt(&plain) == *answer.as_slice() {
+        Case::Cipher
+    } else {
+        Case::Differs
+    }
 }
 
 fn hash(heap: Global, message: &str, taken: &str, given: &str, answer: &str) -> Case {
@@ -54,7 +75,11 @@ fn hash(heap: Global, message: &str, taken: &str, given: &str, answer: &str) -> 
     ) else {
         return Case::Unreadable;
     };
-    if gives(&message, taken, given, &answer) { Case::Hash } else { Case::Differs }
+    if gives(&message, taken, given, &answer) {
+        Case::Hash
+    } else {
+        Case::Differs
+    }
 }
 
 // Whether a sponge that takes the message in pieces gives the answer in pieces.

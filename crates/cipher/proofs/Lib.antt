@@ -1,0 +1,4 @@
+pub mod Fours
+pub mod Numbers
+pub mod Products
+pub mod Schedules

@@ -1,0 +1,5 @@
+mod Blocks
+mod Bytes
+mod Lanes
+mod Outputs
+mod Steps

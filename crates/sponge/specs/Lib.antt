@@ -1,0 +1,6 @@
+pub mod Hashes
+pub mod Keccak
+pub mod Shake
+pub mod Sponges
+pub mod Statements
+pub mod Tables

@@ -1,0 +1,211 @@
+// What a sponge does: it absorbs, is padded and turned once, and is squeezed.
+ghost use mathlib.Core.Path.{_≡_};
+ghost use mathlib.Core.List.{List, [], _∷_, _++_};
+ghost use Prim.Native.Nat.{ℕ, _+_, _*_, _/_, _%_, _^_, _<_, _≤_};
+ghost use lib.Bits.{bitXor};
+ghost use lib.ListN.{length, getD, set, take, drop};
+ghost use Rattle.sponge.specs.Keccak.{permuted};
+ghost use Rattle.sponge.specs.Shake.{withByte, byteAt, laneOf, shake};
+ghost use Rattle.sponge.specs.Sponges.{Absorbed, Turned, Advanced, Gives, Admits, AbsorbCall};
+use crate::keccak::permute;
+use crate::state::Call;
+use crate::state::KeccakState;
+use crate::state::Mode;
+use crate::state::Sponge;
+use refusal::Refusal;
+
+// How many bytes a block has.
+const RATE: usize = 136;
+
+// The eight bytes from byte i on as a lane, the lowest first.
+fn lane_from(bytes: &[u8], i: usize) -> u64
+    requires { ⌜ i + 8 ≤ length (now bytes) ⌝ }
+    ensures { λ r. ⌜ r ≡ laneOf 0 (take 8 (drop i (now (bytes .entry)))) ⌝ }
+{
+    (bytes[i] as u64)
+        ^ ((bytes[i + 1] as u64) << 8)
+        ^ ((bytes[i + 2] as u64) << 16)
+        ^ ((bytes[i + 3] as u64) << 24)
+        ^ ((bytes[i + 4] as u64) << 32)
+        ^ ((bytes[i + 5] as u64) << 40)
+        ^ ((bytes[i + 6] as u64) << 48)
+        ^ ((bytes[i + 7] as u64) << 56)
+}
+
+// Writes the eight bytes of a lane from byte i on, the lowest first.
+fn write_lane(out: &mut [u8], i: usize, lane: u64)
+    requires { ⌜ i + 8 ≤ length (now out) ⌝ }
+    ensures before { λ _. ⌜ ((j : ℕ) → j < i → getD (now (out .exit)) j 0 ≡ getD (now (out .entry)) j 0) ⌝ }
+    ensures bytes { λ _. ⌜ ((j : ℕ) → j < 8 → getD (now (out .exit)) (i + j) 0 ≡ lane / 2 ^ (8 * j) % 256) ⌝ }
+{
+    for j in 0..8usize {
+        out[i + j] = ((lane >> (8 * j)) & 0xff) as u8;
+    }
+}
+
+impl KeccakState {
+    // Xors a byte into byte `at`.
+    fn mix(&mut self, at: usize, byte: u8)
+        requires { ⌜ at < 200 ⌝ }
+        ensures { λ _. ⌜ now (self .exit) .lanes ≡ withByte (now (self .entry) .lanes) at byte ⌝ }
+    {
+        let shift = 8 * (at % 8) as u32;
+        self.lanes[at / 8] ^= (byte as u64) << shift;
+    }
+
+    // Xors a lane into lane `at`.
+    fn mix_lane(&mut self, at: usize, lane: u64)
+        requires { ⌜ at < 25 ⌝ }
+        ensures { λ _. ⌜ now (self .exit) .lanes ≡ set (now (self .entry) .lanes) at (bitXor (getD (now (self .entry) .lanes) at 0) lane) ⌝ }
+    {
+        self.lanes[at] ^= lane;
+    }
+
+    // Byte `at`.
+    fn byte(&self, at: usize) -> u8
+        requires { ⌜ at < 200 ⌝ }
+        ensures { λ r. ⌜ r ≡ byteAt (now (self .entry) .lanes) at ⌝ }
+    {
+        let shift = 8 * (at % 8) as u32;
+        ((self.lanes[at / 8] >> shift) & 0xff) as u8
+    }
+}
+
+impl Sponge {
+    // A sponge that has absorbed nothing.
+    pub fn new() -> Sponge
+        ensures { λ r. ⌜ Absorbed r [] ⌝ }
+    {
+        Sponge {
+            state: KeccakState { lanes: [0; 25] },
+            mode: Mode::Absorbing,
+            pos: 0,
+        }
+    }
+
+    // Goes n bytes on in the block, with a permutation where that is its end.
+    fn advance(&mut self, n: usize)
+        requires { ⌜ now self .pos + n ≤ 136 ⌝ }
+        ensures { λ _. ⌜ Advanced (now (self .entry) .pos) (now (self .entry) .mode) (now (self .entry) .state .lanes) n (now (self .exit)) ⌝ }
+    {
+        if self.pos + n == RATE {
+            permute(&mut self.state.lanes);
+            self.pos = 0;
+        } else {
+            self.pos += n;
+        }
+    }
+
+    // Takes byte i.
+    fn put_byte(&mut self, bytes: &[u8], i: usize)
+        requires { ⌜ i < length (now bytes) ⌝ }
+        ensures { λ _. ⌜ ((m : List ℕ) → Absorbed (now (self .entry)) m → Absorbed (now (self .exit)) (m ++ take 1 (drop i (now (bytes .entry))))) ⌝ }
+    {
+        self.state.mix(self.pos, bytes[i]);
+        self.advance(1);
+    }
+
+    // Takes eight bytes from byte i on, at the beginning of a lane.
+    fn put_lane(&mut self, bytes: &[u8], i: usize)
+        requires place { ⌜ now self .pos % 8 ≡ 0 ⌝ }
+        requires within { ⌜ i + 8 ≤ length (now bytes) ⌝ }
+        ensures { λ _. ⌜ ((m : List ℕ) → Absorbed (now (self .entry)) m → Absorbed (now (self .exit)) (m ++ take 8 (drop i (now (bytes .entry))))) ⌝ }
+    {
+        self.state.mix_lane(self.pos / 8, lane_from(bytes, i));
+        self.advance(8);
+    }
+
+    // Takes the bytes, whatever the mode.
+    pub(crate) fn feed(&mut self, bytes: &[u8])
+        ensures { λ _. ⌜ ((m : List ℕ) → Absorbed (now (self .entry)) m → Absorbed (now (self .exit)) (m ++ now (bytes .entry))) ⌝ }
+    {
+        let mut i = 0;
+        while i < bytes.len() {
+            if self.pos % 8 == 0 && bytes.len() - i >= 8 {
+                self.put_lane(bytes, i);
+                i += 8;
+            } else {
+                self.put_byte(bytes, i);
+                i += 1;
+            }
+        }
+    }
+
+    // Gives byte i.
+    fn get_byte(&mut self, out: &mut [u8], i: usize)
+        requires { ⌜ i < length (now out) ⌝ }
+        ensures { λ _. ⌜ ((m : List ℕ) (k : ℕ) → Turned (now (self .entry)) m k → Gives m k i 1 (now (out .entry)) (now (out .exit)) × Turned (now (self .exit)) m (k + 1)) ⌝ }
+    {
+        out[i] = self.state.byte(self.pos);
+        self.advance(1);
+    }
+
+    // Gives eight bytes from byte i on, at the beginning of a lane.
+    fn get_lane(&mut self, out: &mut [u8], i: usize)
+        requires place { ⌜ now self .pos % 8 ≡ 0 ⌝ }
+        requires within { ⌜ i + 8 ≤ length (now out) ⌝ }
+        ensures { λ _. ⌜ ((m : List ℕ) (k : ℕ) → Turned (now (self .entry)) m k → Gives m k i 8 (now (out .entry)) (now (out .exit)) × Turned (now (self .exit)) m (k + 8)) ⌝ }
+    {
+        write_lane(out, i, self.state.lanes[self.pos / 8]);
+        self.advance(8);
+    }
+    // Gives the next bytes, once it has turned.
+    fn draw(&mut self, out: &mut [u8])
+        ensures { λ _. ⌜ ((m : List ℕ) (k : ℕ) → Turned (now (self .entry)) m k → (now (out .exit) ≡ shake m k (length (now (out .entry)))) × Turned (now (self .exit)) m (k + length (now (out .entry)))) ⌝ }
+    {
+        let mut i = 0;
+        while i < out.len() {
+            if self.pos % 8 == 0 && out.len() - i >= 8 {
+                self.get_lane(out, i);
+                i += 8;
+            } else {
+                self.get_byte(out, i);
+                i += 1;
+            }
+        }
+    }
+
+    // Ends the absorbing: the two bytes of the padding, and one permutation.
+    pub(crate) fn turn(&mut self)
+        ensures { λ _. ⌜ ((m : List ℕ) → Absorbed (now (self .entry)) m → Turned (now (self .exit)) m 0) ⌝ }
+    {
+        self.state.mix(self.pos, 0x1f);
+        self.state.mix(RATE - 1, 0x80);
+        permute(&mut self.state.lanes);
+        self.pos = 0;
+        self.mode = Mode::Squeezing;
+    }
+
+    // What each mode does with each call, before any byte is taken or given.
+    fn admit(&mut self, call: Call) -> Result<(), Refusal>
+        ensures { λ r. ⌜ Admits call (now (self .entry)) (now (self .exit)) r ⌝ }
+    {
+        match (self.mode, call) {
+            (Mode::Absorbing, Call::Absorb) => Ok(()),
+            (Mode::Absorbing, Call::Squeeze) => {
+                self.turn();
+                Ok(())
+            }
+            (Mode::Squeezing, Call::Absorb) => Err(Refusal::SpongeTurned),
+            (Mode::Squeezing, Call::Squeeze) => Ok(()),
+        }
+    }
+
+    // Takes the bytes as the next of the message.
+    pub fn absorb(&mut self, bytes: &[u8]) -> Result<(), Refusal>
+        ensures { λ r. ⌜ AbsorbCall (now (bytes .entry)) (now (self .entry)) (now (self .exit)) r ⌝ }
+    {
+        self.admit(Call::Absorb)?;
+        self.feed(bytes);
+        Ok(())
+    }
+
+    // Fills `out` with the next bytes of the output. A squeeze is never refused.
+    pub fn squeeze(&mut self, out: &mut [u8])
+        ensures first { λ _. ⌜ ((m : List ℕ) → Absorbed (now (self .entry)) m → (now (out .exit) ≡ shake m 0 (length (now (out .entry)))) × Turned (now (self .exit)) m (length (now (out .entry)))) ⌝ }
+        ensures later { λ _. ⌜ ((m : List ℕ) (k : ℕ) → Turned (now (self .entry)) m k → (now (out .exit) ≡ shake m k (length (now (out .entry)))) × Turned (now (self .exit)) m (k + length (now (out .entry)))) ⌝ }
+    {
+        let _ = self.admit(Call::Squeeze);
+        self.draw(out);
+    }
+}

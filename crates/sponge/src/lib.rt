@@ -1,0 +1,13 @@
+// SHAKE256 as a sponge that is fed and read in pieces of any size, and the tagged hashes over it.
+mod calls;
+mod hasher;
+mod hashes;
+mod keccak;
+pub mod state;
+pub mod theorems;
+
+pub use hasher::Hasher;
+pub use hashes::hash;
+pub use hashes::shake256;
+pub use hashes::stream;
+pub use state::Sponge;
