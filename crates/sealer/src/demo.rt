@@ -15,6 +15,28 @@ use sponge::Sponge;
 
 const MESSAGE: &[u8] = b"Plan 17, sheet 3: the boundary runs from stone A to stone B.";
 
+// The example of FIPS 197, appendix C.1.
+const KEY: [u8; 16] = [0, 1, 2, 3, 4, 5, 6, 7, 8, 9, 10, 11, 12, 13, 14, 15];
+
+const BLOCK: [u8; 16] = [
+    0,
+    17,
+    34,
+    51,
+    68,
+    85,
+    102,
+    119,
+    136,
+    153,
+    170,
+    187,
+    204,
+    221,
+    238,
+    255,
+];
+
 pub fn run(rt: &LibcRuntime) -> Result<(), Failure> {
     fields(rt)?;
     encipher(rt)?;
@@ -55,15 +77,9 @@ fn fields(rt: &LibcRuntime) -> Result<(), Failure> {
 
 fn encipher(rt: &LibcRuntime) -> Result<(), Failure> {
     println!(rt, "Cipher")?;
-    let mut key = [0u8; 16];
-    let mut block = [0u8; 16];
-    for i in 0..16u8 {
-        key[i as usize] = i;
-        block[i as usize] = 17 * i;
-    }
-    let out = Aes128::new(&key).encrypt(&block);
-    let key_text = hex::encode(rt.alloc(), &key)?;
-    let block_text = hex::encode(rt.alloc(), &block)?;
+    let out = Aes128::new(&KEY).encrypt(&BLOCK);
+    let key_text = hex::encode(rt.alloc(), &KEY)?;
+    let block_text = hex::encode(rt.alloc(), &BLOCK)?;
     let out_text = hex::encode(rt.alloc(), &out)?;
     println!(rt, "  AES-128 under the key {key_text}")?;
     println!(rt, "  takes the block {block_text}")?;

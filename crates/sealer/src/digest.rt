@@ -13,11 +13,10 @@ pub const MESSAGE_TAG: u8 = 0x01;
 const PIECE: usize = 65536;
 
 // Reads to the end, piece by piece, so that the memory does not grow with the message.
-pub fn of_reader<R: Read>(reader: &mut R) -> io::Result<[u8; 32]> {
-    let mut piece = [0u8; PIECE];
+fn of_reader<R: Read>(reader: &mut R, piece: &mut [u8]) -> io::Result<[u8; 32]> {
     let mut hasher = Hasher::new(MESSAGE_TAG);
     for _ in 0..u64::MAX {
-        let n = reader.read(&mut piece)?;
+        let n = reader.read(piece)?;
         if n == 0 {
             break;
         }
@@ -27,10 +26,11 @@ pub fn of_reader<R: Read>(reader: &mut R) -> io::Result<[u8; 32]> {
 }
 
 fn of_file(rt: &LibcRuntime, name: &str) -> io::Result<[u8; 32]> {
+    let mut piece = [0u8; PIECE];
     if name == "-" {
-        of_reader(&mut rt.stdin())
+        of_reader(&mut rt.stdin(), &mut piece)
     } else {
-        of_reader(&mut File::open(rt, name)?)
+        of_reader(&mut File::open(rt, name)?, &mut piece)
     }
 }
 

@@ -58,11 +58,16 @@ fn encipher(heap: Global, key: &str, plain: &str, answer: &str) -> Case {
     let (Some(key), Some(plain)) = (block(&key), block(&plain)) else {
         return Case::Unreadable;
     };
-    if Aes128::new(&key).encrypt(&plain) == *answer.as_slice() {
+    let cipher = Aes128::new(&key);
+    if same(&cipher.encrypt(&plain), &answer) {
         Case::Cipher
     } else {
         Case::Differs
     }
+}
+
+fn same(a: &[u8], b: &[u8]) -> bool {
+    a == b
 }
 
 fn hash(heap: Global, message: &str, taken: &str, given: &str, answer: &str) -> Case {
@@ -84,7 +89,7 @@ fn hash(heap: Global, message: &str, taken: &str, given: &str, answer: &str) -> 
 
 // Whether a sponge that takes the message in pieces gives the answer in pieces.
 fn gives(message: &[u8], taken: usize, given: usize, answer: &[u8]) -> bool {
-    if taken == 0 || given == 0 || given > 512 {
+    if taken == 0 || given == 0 {
         return false;
     }
     let mut sponge = Sponge::new();
@@ -93,13 +98,21 @@ fn gives(message: &[u8], taken: usize, given: usize, answer: &[u8]) -> bool {
             return false;
         }
     }
-    let mut buffer = [0u8; 512];
     for piece in answer.chunks(given) {
-        let out = &mut buffer[0..piece.len()];
-        sponge.squeeze(out);
-        if *out != *piece {
+        if !gives_next(&mut sponge, piece) {
             return false;
         }
     }
     true
+}
+
+// Whether these are the next bytes that the sponge gives.
+fn gives_next(sponge: &mut Sponge, piece: &[u8]) -> bool {
+    let mut buffer = [0u8; 512];
+    if piece.len() > 512 {
+        return false;
+    }
+    let out = &mut buffer[0..piece.len()];
+    sponge.squeeze(out);
+    same(out, piece)
 }
