@@ -1,4 +1,4 @@
-// Bytes in hexadecimal, for people and for files of test cases.
+// Bytes in hexadecimal, for people and for files of cases.
 ghost use mathlib.Core.Path.{_≡_};
 ghost use Prim.Native.Nat.{ℕ, _<_};
 ghost use Rattle.std.specs.Options.{Cases as BySome};

@@ -10,7 +10,8 @@ use Rattle.std.proofs.shelf.Tests.{cases-lt}
 use Rattle.sponge.specs.declared.state.Sponge.{Sponge}
 use Rattle.sponge.specs.Keccak.{permuted}
 use Rattle.sponge.specs.Shake.{byteAt, mixed, closed, after, shakeByte}
-use Rattle.sponge.specs.Sponges.{held, Absorbed, Turned, Advanced}
+use Rattle.sponge.specs.Sponges.{held, Absorbed, Turned}
+use Rattle.sponge.specs.Steps.{Advanced}
 use Rattle.sponge.proofs.Blocks.{held-more, held-full}
 
 -- bytes mixed in at the place, which do not pass the end of the block

@@ -3,4 +3,5 @@ pub mod Keccak
 pub mod Shake
 pub mod Sponges
 pub mod Statements
+pub mod Steps
 pub mod Tables

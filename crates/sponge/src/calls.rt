@@ -6,9 +6,9 @@ ghost use lib.Bits.{bitXor};
 ghost use lib.ListN.{length, getD, set, take, drop};
 ghost use Rattle.sponge.specs.Keccak.{permuted};
 ghost use Rattle.sponge.specs.Shake.{withByte, byteAt, laneOf, shake};
-ghost use Rattle.sponge.specs.Sponges.{Absorbed, Turned, Advanced, Gives, Admits, AbsorbCall};
+ghost use Rattle.sponge.specs.Sponges.{Absorbed, Turned, AbsorbCall};
+ghost use Rattle.sponge.specs.Steps.{Advanced, Gives, Admits};
 use crate::keccak::permute;
-use crate::state::Call;
 use crate::state::KeccakState;
 use crate::state::Mode;
 use crate::state::Sponge;
@@ -16,6 +16,13 @@ use refusal::Refusal;
 
 // How many bytes a block has.
 const RATE: usize = 136;
+
+// What can be asked of a sponge.
+#[derive(Clone, Copy)]
+enum Call {
+    Absorb,
+    Squeeze,
+}
 
 // The eight bytes from byte i on as a lane, the lowest first.
 fn lane_from(bytes: &[u8], i: usize) -> u64

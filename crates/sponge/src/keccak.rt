@@ -1,42 +1,42 @@
 // Keccak-f[1600] (FIPS 202) on 25 lanes of 64 bits, lane (x, y) at x + 5 * y.
 //
-// Each step map is a function of one lane, as the standard writes it, and one that makes all 25. The indices there are fixed, so that the
-// compiler keeps the lanes in registers.
+// A step map is a function of one lane, as the standard writes it, and one that makes all 25 at fixed indices, which the compiler inlines
+// and computes.
 ghost use mathlib.Core.Path.{_≡_};
 ghost use mathlib.Core.List.{map};
 ghost use Prim.Native.Nat.{_<_};
 ghost use Rattle.std.specs.Iters.{counting};
 ghost use Rattle.sponge.specs.Keccak.{column, thetaAt, theta as thetaOf, rhoAt, rho as rhoOf, piAt, pi as piOf, chiAt, chi as chiOf, roundOf, permuted};
 
-// The 25 lanes, as a step map has each.
+// The 25 lanes of a step map, from its function of one lane.
 macro_rules! lanes {
-    ($lane:ident, $s:expr) => {
+    ($lane:ident, $($s:expr),+) => {
         [
-            $lane($s, 0),
-            $lane($s, 1),
-            $lane($s, 2),
-            $lane($s, 3),
-            $lane($s, 4),
-            $lane($s, 5),
-            $lane($s, 6),
-            $lane($s, 7),
-            $lane($s, 8),
-            $lane($s, 9),
-            $lane($s, 10),
-            $lane($s, 11),
-            $lane($s, 12),
-            $lane($s, 13),
-            $lane($s, 14),
-            $lane($s, 15),
-            $lane($s, 16),
-            $lane($s, 17),
-            $lane($s, 18),
-            $lane($s, 19),
-            $lane($s, 20),
-            $lane($s, 21),
-            $lane($s, 22),
-            $lane($s, 23),
-            $lane($s, 24),
+            $lane($($s),+, 0),
+            $lane($($s),+, 1),
+            $lane($($s),+, 2),
+            $lane($($s),+, 3),
+            $lane($($s),+, 4),
+            $lane($($s),+, 5),
+            $lane($($s),+, 6),
+            $lane($($s),+, 7),
+            $lane($($s),+, 8),
+            $lane($($s),+, 9),
+            $lane($($s),+, 10),
+            $lane($($s),+, 11),
+            $lane($($s),+, 12),
+            $lane($($s),+, 13),
+            $lane($($s),+, 14),
+            $lane($($s),+, 15),
+            $lane($($s),+, 16),
+            $lane($($s),+, 17),
+            $lane($($s),+, 18),
+            $lane($($s),+, 19),
+            $lane($($s),+, 20),
+            $lane($($s),+, 21),
+            $lane($($s),+, 22),
+            $lane($($s),+, 23),
+            $lane($($s),+, 24),
         ]
     };
 }
@@ -131,33 +131,7 @@ fn theta(s: &[u64; 25]) -> [u64; 25]
     ensures { λ r. ⌜ r ≡ thetaOf (now (s .entry)) ⌝ }
 {
     let c = columns(s);
-    [
-        theta_at(s, &c, 0),
-        theta_at(s, &c, 1),
-        theta_at(s, &c, 2),
-        theta_at(s, &c, 3),
-        theta_at(s, &c, 4),
-        theta_at(s, &c, 5),
-        theta_at(s, &c, 6),
-        theta_at(s, &c, 7),
-        theta_at(s, &c, 8),
-        theta_at(s, &c, 9),
-        theta_at(s, &c, 10),
-        theta_at(s, &c, 11),
-        theta_at(s, &c, 12),
-        theta_at(s, &c, 13),
-        theta_at(s, &c, 14),
-        theta_at(s, &c, 15),
-        theta_at(s, &c, 16),
-        theta_at(s, &c, 17),
-        theta_at(s, &c, 18),
-        theta_at(s, &c, 19),
-        theta_at(s, &c, 20),
-        theta_at(s, &c, 21),
-        theta_at(s, &c, 22),
-        theta_at(s, &c, 23),
-        theta_at(s, &c, 24),
-    ]
+    lanes!(theta_at, s, &c)
 }
 
 fn rho_at(s: &[u64; 25], i: usize) -> u64

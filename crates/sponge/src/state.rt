@@ -2,21 +2,14 @@
 ghost use Prim.Native.Nat.{_<_};
 
 // The 25 lanes that Keccak-f[1600] permutes.
-pub struct KeccakState {
+pub(crate) struct KeccakState {
     pub(crate) lanes: [u64; 25],
 }
 
 #[derive(Clone, Copy)]
-pub enum Mode {
+pub(crate) enum Mode {
     Absorbing,
     Squeezing,
-}
-
-// What can be asked of a sponge.
-#[derive(Clone, Copy)]
-pub enum Call {
-    Absorb,
-    Squeeze,
 }
 
 // `pos` is the place in the block of 136 bytes that the next byte goes into, or comes from.

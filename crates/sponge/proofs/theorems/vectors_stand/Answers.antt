@@ -6,4 +6,4 @@ use Rattle.sponge.proofs.theorems.vectors_stand.Needs as need
 
 pub returns : need.returns
 unfolding thetaAt theta rho pi chi iota roundOf rounds permuted byteAt withByte mixed ending padded blocks closed after shakeByte shake walk offsets shifted register constantBit constantOf constants
-returns c = record { empty = refl; far = refl; long = refl; edge = refl; full = refl }
+returns c = record { empty = refl; long = refl; edge = refl; full = refl }

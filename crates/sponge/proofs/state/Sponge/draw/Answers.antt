@@ -8,7 +8,8 @@ use Rattle.std.proofs.shelf.Counted.{fill-by-all}
 use Rattle.std.proofs.shelf.Tests.{cases-lt}
 use Rattle.sponge.specs.declared.state.Sponge.{Sponge}
 use Rattle.sponge.specs.Shake.{shakeByte, shake}
-use Rattle.sponge.specs.Sponges.{Turned, Gives}
+use Rattle.sponge.specs.Sponges.{Turned}
+use Rattle.sponge.specs.Steps.{Gives}
 use Rattle.sponge.proofs.state.Sponge.draw.Needs as need
 
 further : (s : Sponge) (m : List ℕ) (k i n : ℕ) (was out : List ℕ) → ((j : ℕ) → j < i → getD was j 0 ≡ shakeByte m (k + j)) → Gives m (k + i) i n was out × Turned s m (k + i + n) → ((j : ℕ) → j < i + n → getD out j 0 ≡ shakeByte m (k + j)) × Turned s m (k + (i + n))

@@ -3,7 +3,8 @@ use mathlib.Core.List.{[], _∷_, _++_}
 use native.Mathlib.Omega.{arith}
 use lib.ListN.{getD}
 use Rattle.sponge.specs.Shake.{mixed}
-use Rattle.sponge.specs.Sponges.{Absorbed, Advanced}
+use Rattle.sponge.specs.Sponges.{Absorbed}
+use Rattle.sponge.specs.Steps.{Advanced}
 use Rattle.sponge.proofs.Lanes.{one}
 use Rattle.sponge.proofs.Steps.{taken}
 use Rattle.sponge.proofs.state.Sponge.put_byte.Needs as need

@@ -5,7 +5,8 @@ use lib.Bits.{bitXor}
 use lib.ListN.{length, getD, set, take, drop}
 use Rattle.std.proofs.shelf.Lists.{length-take-le, length-drop}
 use Rattle.sponge.specs.Shake.{mixed}
-use Rattle.sponge.specs.Sponges.{Absorbed, Advanced}
+use Rattle.sponge.specs.Sponges.{Absorbed}
+use Rattle.sponge.specs.Steps.{Advanced}
 use Rattle.sponge.proofs.Blocks.{length-held}
 use Rattle.sponge.proofs.Lanes.{mixed-whole}
 use Rattle.sponge.proofs.Steps.{taken}
