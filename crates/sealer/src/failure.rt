@@ -2,10 +2,11 @@
 use std::alloc::AllocError;
 use std::io;
 
-// What went wrong has been said on standard error, unless that could not be written either.
 #[derive(Clone, Copy, Debug)]
 pub enum Failure {
+    // What went wrong has been said on standard error.
     Said,
+    // Standard output or standard error could not be written.
     NoOutput,
     NoMemory,
 }
@@ -22,8 +23,11 @@ pub impl From<AllocError> for Failure as FailureFromAlloc {
     }
 }
 
-// Says how a command is used, and ends.
-pub fn usage(rt: &LibcRuntime, text: &str) -> Result<(), Failure> {
-    eprintln!(rt, "sealer: {text}")?;
-    Err(Failure::Said)
+// Says what has not been said yet.
+pub fn explain(rt: &LibcRuntime, failure: Failure) {
+    let _ = match failure {
+        Failure::Said => Ok(()),
+        Failure::NoOutput => eprintln!(rt, "sealer: the output could not be written"),
+        Failure::NoMemory => eprintln!(rt, "sealer: there is not enough memory"),
+    };
 }
