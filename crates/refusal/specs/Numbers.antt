@@ -27,3 +27,7 @@ numberOf SpongeTurned = 18
 -- no refusal has the number n
 abbrev pub NoRefusal : ℕ → Type 0
 NoRefusal n = (e : Refusal) → numberOf e ≡ n → ⊥
+
+-- no two refusals have one number
+abbrev pub NumbersDiffer : Type 0
+NumbersDiffer = (e f : Refusal) → numberOf e ≡ numberOf f → e ≡ f

@@ -2,7 +2,7 @@
 ghost use mathlib.Core.Path.{_≡_};
 ghost use Prim.Native.Nat.{ℕ};
 ghost use Rattle.std.specs.Options.{Cases};
-ghost use Rattle.refusal.specs.Numbers.{numberOf, NoRefusal};
+ghost use Rattle.refusal.specs.Numbers.{numberOf, NoRefusal, NumbersDiffer};
 use std::fmt;
 
 // In the order of their numbers, which is the order in which a call tries them.
@@ -62,6 +62,13 @@ impl Refusal {
             _ => None,
         }
     }
+}
+
+// No two refusals have one number. The function does nothing; its contract is the theorem.
+pub fn numbers_differ() -> u8
+    ensures { λ _. ⌜ NumbersDiffer ⌝ }
+{
+    0
 }
 
 // What is wrong, for a person.
