@@ -15,6 +15,9 @@ use sponge::Sponge;
 
 const MESSAGE: &[u8] = b"Plan 17, sheet 3: the boundary runs from stone A to stone B.";
 
+// Two bytes that stand for no number below 251, and one that does.
+const SAMPLED: [u8; 16] = [251, 255, 7, 0, 0, 0, 0, 0, 0, 0, 0, 0, 0, 0, 0, 0];
+
 // The example of FIPS 197, appendix C.1.
 const KEY: [u8; 16] = [0, 1, 2, 3, 4, 5, 6, 7, 8, 9, 10, 11, 12, 13, 14, 15];
 
@@ -45,79 +48,71 @@ pub fn run(rt: &LibcRuntime) -> Result<(), Failure> {
 }
 
 fn fields(rt: &LibcRuntime) -> Result<(), Failure> {
-    println!(rt, "Fields")?;
     let a = Gf256::element(0x57);
     let b = Gf256::element(0x83);
     let product = a.multiply(b).number();
     let back = a.multiply(b).multiply(b.invert()).number();
-    println!(
-        rt,
-        "  of 256 elements: 57 times 83 is {product:x}, and that divided by 83 is {back:x}"
-    )?;
     let c = Mod251::element(200);
     let d = Mod251::element(100);
     let sum = c.add(d).number();
     let times = c.multiply(d).number();
-    println!(
-        rt,
-        "  modulo 251: 200 plus 100 is {sum}, and 200 times 100 is {times}"
-    )?;
-    let mut bytes = [0u8; 16];
-    bytes[0] = 251;
-    bytes[1] = 255;
-    bytes[2] = 7;
-    let (element, used) = Mod251::sample(&bytes);
+    let (element, used) = Mod251::sample(&SAMPLED);
     let number = element.number();
     println!(
         rt,
-        "  modulo 251: the bytes 251, 255, 7 are sampled to {number}, with {used} of them used"
+        "Fields
+  of 256 elements: 57 times 83 is {product:x}, and that divided by 83 is {back:x}
+  modulo 251: 200 plus 100 is {sum}, and 200 times 100 is {times}
+  modulo 251: the bytes 251, 255, 7 are sampled to {number}, with {used} of them used"
     )?;
     Ok(())
 }
 
 fn encipher(rt: &LibcRuntime) -> Result<(), Failure> {
-    println!(rt, "Cipher")?;
     let out = Aes128::new(&KEY).encrypt(&BLOCK);
-    let key_text = hex::encode(rt.alloc(), &KEY)?;
-    let block_text = hex::encode(rt.alloc(), &BLOCK)?;
-    let out_text = hex::encode(rt.alloc(), &out)?;
-    println!(rt, "  AES-128 under the key {key_text}")?;
-    println!(rt, "  takes the block {block_text}")?;
-    println!(rt, "  to {out_text}")?;
+    let key = hex::encode(rt.alloc(), &KEY)?;
+    let block = hex::encode(rt.alloc(), &BLOCK)?;
+    let result = hex::encode(rt.alloc(), &out)?;
+    println!(
+        rt,
+        "Cipher
+  AES-128 under the key {key}
+  takes the block {block}
+  to {result}"
+    )?;
     Ok(())
 }
 
 fn hash(rt: &LibcRuntime) -> Result<(), Failure> {
-    println!(rt, "Sponge")?;
     let whole = sponge::hash(MESSAGE_TAG, &[MESSAGE]);
     let mut hasher = Hasher::new(MESSAGE_TAG);
     let (front, back) = MESSAGE.split_at(10);
     hasher.update(front);
     hasher.update(back);
     let agree = hasher.finish() == whole;
-    let text = hex::encode(rt.alloc(), &whole)?;
+    let digest = hex::encode(rt.alloc(), &whole)?;
     println!(
         rt,
-        "  the message of {} bytes has the digest",
+        "Sponge
+  the message of {} bytes has the digest
+  {digest}
+  taken in two pieces, it has the same digest: {agree}",
         MESSAGE.len()
     )?;
-    println!(rt, "  {text}")?;
-    println!(rt, "  taken in two pieces, it has the same digest: {agree}")?;
     Ok(())
 }
 
 fn refuse(rt: &LibcRuntime) -> Result<(), Failure> {
-    println!(rt, "Refusals")?;
     let mut sponge = Sponge::new();
     let mut out = [0u8; 8];
     sponge.squeeze(&mut out);
     match sponge.absorb(MESSAGE) {
-        Ok(()) => println!(rt, "  a sponge that had turned took more bytes")?,
+        Ok(()) => rt.println("Refusals\n  a sponge that had turned took more bytes")?,
         Err(refusal) => {
             let number = refusal.number();
             println!(
                 rt,
-                "  a sponge that had turned refused more bytes with {number}: {refusal}"
+                "Refusals\n  a sponge that had turned refused more bytes with {number}: {refusal}"
             )?
         }
     }

@@ -4,34 +4,22 @@ use crate::failure::FailureFromIo;
 use refusal::Refusal;
 use refusal::RefusalDisplay;
 
+const HELP: &str = "sealer makes and checks seals for documents that must hold for decades.
+
+  sealer digest FILE ..   the digest of each file that a seal binds; - is standard input
+  sealer refusals         the numbers with which calls are refused, and what they mean
+  sealer demo             a tour of what there is, from beginning to end
+  sealer help             this page
+
+Examples:
+  sealer digest plan.txt
+  cat plan.txt | sealer digest -
+
+It ends with status 0 when all was done, and with 1 after saying on standard error what was not.
+";
+
 pub fn print(rt: &LibcRuntime) -> Result<(), Failure> {
-    println!(
-        rt,
-        "sealer makes and checks seals for documents that must hold for decades."
-    )?;
-    println!(rt, "")?;
-    println!(
-        rt,
-        "  sealer digest FILE ..   the digest of each file that a seal binds; - is standard input"
-    )?;
-    println!(
-        rt,
-        "  sealer refusals         the numbers with which calls are refused, and what they mean"
-    )?;
-    println!(
-        rt,
-        "  sealer demo             a tour of what there is, from beginning to end"
-    )?;
-    println!(rt, "  sealer help             this page")?;
-    println!(rt, "")?;
-    println!(rt, "Examples:")?;
-    println!(rt, "  sealer digest plan.txt")?;
-    println!(rt, "  cat plan.txt | sealer digest -")?;
-    println!(rt, "")?;
-    println!(
-        rt,
-        "It ends with status 0 when all was done, and with 1 after saying on standard error what was not."
-    )?;
+    rt.print(HELP)?;
     Ok(())
 }
 

@@ -6,10 +6,9 @@ use native.Mathlib.Omega.{arith}
 use native.Mathlib.Nat.{zero-mul}
 use lib.Bits.{bitXor, xor-zero-r, xor-assoc}
 use lib.ListN.{length, getD, set, take, drop, replicate}
-use Rattle.std.proofs.shelf.Lists.{append-assoc, length-append, length-set, length-drop, length-take-le, length-replicate, length-push, take-all, drop-all, take-append-le, drop-append-le, getD-set-same, set-set, set-getD}
-use Rattle.std.proofs.shelf.Counted.{length-map-counting}
-use Rattle.sponge.specs.Keccak.{permuted, rounds, roundOf, iota, chi}
-use Rattle.sponge.specs.Shake.{withByte, byteAt, mixed, ending, padded, blocks, closed, after, shakeByte, shake}
+use Rattle.std.proofs.shelf.Lists.{length-append, length-set, length-drop, length-replicate, take-all, drop-all, take-append-le, drop-append-le, getD-set-same, set-set, set-getD}
+use Rattle.keccak.specs.Keccak.{permuted, rounds, roundOf, iota, chi}
+use Rattle.sponge.specs.Shake.{withByte, mixed, ending, padded, blocks, closed}
 use Rattle.sponge.specs.Sponges.{heldAt, held}
 
 pub mixed-append : (p : ℕ) (xs ys s : List ℕ) → mixed p (xs ++ ys) s ≡ mixed (p + length xs) ys (mixed p xs s)

@@ -1,14 +1,14 @@
 -- To mix bytes in is to xor the state's bytes. Assumes nothing.
-use mathlib.Core.Path.{_≡_, refl, sym, ap, ap₂, _∙_, subst}
+use mathlib.Core.Path.{_≡_, refl, sym, ap, _∙_}
 use mathlib.Core.List.{List, [], _∷_}
-use mathlib.Core.Logic.{_⊎_, inl, inr, _≢_}
-use Prim.Native.Nat.{ℕ, zero, suc, _+_, _-_, _*_, _/_, _%_, _^_, _<_, _≤_}
+use mathlib.Core.Logic.{inl, inr}
+use Prim.Native.Nat.{ℕ, suc, _+_, _-_, _*_, _/_, _%_, _^_, _<_, _≤_}
 use native.Mathlib.Omega.{arith}
 use native.Mathlib.Nat.{mul-assoc, mul-mod-left, mod-eq-of-lt, div-eq-of-lt, zero-div}
 use lib.Bits.{bitXor, xor-zero-r}
 use lib.ListN.{length, getD, set}
 use Rattle.std.proofs.shelf.Bits.{shl-whole, shl-shr, shr-shr, pow-add, xor-shr, xor-mod}
-use Rattle.std.proofs.shelf.Lists.{length-set, getD-set-same, getD-set-other}
+use Rattle.std.proofs.shelf.Lists.{getD-set-same, getD-set-other}
 use Rattle.std.proofs.shelf.Tests.{cases-lt, cases-eq}
 use Rattle.sponge.specs.Shake.{withByte, byteAt, mixed}
 use Rattle.sponge.proofs.Blocks.{length-withByte}

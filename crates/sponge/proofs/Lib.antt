@@ -1,5 +1,5 @@
 mod Blocks
 mod Bytes
 mod Lanes
-mod Outputs
+pub mod Outputs
 mod Steps

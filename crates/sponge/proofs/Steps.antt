@@ -1,14 +1,14 @@
 -- What bytes taken and given do to what a sponge holds. Assumes nothing.
-use mathlib.Core.Path.{_≡_, refl, sym, ap, ap₂, _∙_}
-use mathlib.Core.List.{List, [], _∷_, _++_}
-use mathlib.Core.Logic.{_⊎_, inl, inr}
-use Prim.Native.Nat.{ℕ, suc, _+_, _*_, _/_, _%_, _<_, _≤_}
+use mathlib.Core.Path.{_≡_, sym, ap, ap₂, _∙_}
+use mathlib.Core.List.{List, _++_}
+use mathlib.Core.Logic.{inl, inr}
+use Prim.Native.Nat.{ℕ, suc, _+_, _/_, _%_, _<_, _≤_}
 use native.Mathlib.Omega.{arith}
 use lib.ListN.{length}
 use Rattle.std.proofs.shelf.Lists.{length-append}
 use Rattle.std.proofs.shelf.Tests.{cases-lt}
 use Rattle.sponge.specs.declared.state.Sponge.{Sponge}
-use Rattle.sponge.specs.Keccak.{permuted}
+use Rattle.keccak.specs.Keccak.{permuted}
 use Rattle.sponge.specs.Shake.{byteAt, mixed, closed, after, shakeByte}
 use Rattle.sponge.specs.Sponges.{held, Absorbed, Turned}
 use Rattle.sponge.specs.Steps.{Advanced}

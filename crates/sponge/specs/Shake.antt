@@ -4,7 +4,7 @@ use Prim.Native.Nat.{ℕ, zero, suc, _+_, _-_, _*_, _/_, _%_, _^_}
 use lib.Bits.{bitXor}
 use lib.ListN.{length, getD, set, take, drop, replicate}
 use Rattle.std.specs.Iters.{counting}
-use Rattle.sponge.specs.Keccak.{permuted}
+use Rattle.keccak.specs.Keccak.{permuted}
 
 -- byte p of the state
 unfoldable pub byteAt : List ℕ → ℕ → ℕ

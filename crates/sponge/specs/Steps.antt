@@ -11,7 +11,7 @@ use Rattle.sponge.specs.declared.calls.Call.{Call}
 use Rattle.sponge.specs.declared.calls.Call.the-variants.{Absorb, Squeeze}
 use Rattle.sponge.specs.declared.state.Mode.{Mode}
 use Rattle.sponge.specs.declared.state.Sponge.{Sponge}
-use Rattle.sponge.specs.Keccak.{permuted}
+use Rattle.keccak.specs.Keccak.{permuted}
 use Rattle.sponge.specs.Shake.{shakeByte}
 use Rattle.sponge.specs.Sponges.{Absorbed, Turned}
 

@@ -1,17 +1,17 @@
 // What a sponge does: it absorbs, is padded and turned once, and is squeezed.
 ghost use mathlib.Core.Path.{_≡_};
-ghost use mathlib.Core.List.{List, [], _∷_, _++_};
-ghost use Prim.Native.Nat.{ℕ, _+_, _*_, _/_, _%_, _^_, _<_, _≤_};
-ghost use lib.Bits.{bitXor};
-ghost use lib.ListN.{length, getD, set, take, drop};
-ghost use Rattle.sponge.specs.Keccak.{permuted};
-ghost use Rattle.sponge.specs.Shake.{withByte, byteAt, laneOf, shake};
+ghost use mathlib.Core.List.{List, [], _++_};
+ghost use Prim.Native.Nat.{ℕ, _+_, _%_, _<_, _≤_};
+ghost use lib.ListN.{length, take, drop};
+ghost use Rattle.sponge.specs.Shake.{shake};
 ghost use Rattle.sponge.specs.Sponges.{Absorbed, Turned, AbsorbCall};
 ghost use Rattle.sponge.specs.Steps.{Advanced, Gives, Admits};
-use crate::keccak::permute;
+use crate::access::lane_from;
+use crate::access::write_lane;
 use crate::state::KeccakState;
 use crate::state::Mode;
 use crate::state::Sponge;
+use keccak::permute;
 use refusal::Refusal;
 
 // How many bytes a block has.
@@ -22,60 +22,6 @@ const RATE: usize = 136;
 enum Call {
     Absorb,
     Squeeze,
-}
-
-// The eight bytes from byte i on as a lane, the lowest first.
-fn lane_from(bytes: &[u8], i: usize) -> u64
-    requires { ⌜ i + 8 ≤ length (now bytes) ⌝ }
-    ensures { λ r. ⌜ r ≡ laneOf 0 (take 8 (drop i (now (bytes .entry)))) ⌝ }
-{
-    (bytes[i] as u64)
-        ^ ((bytes[i + 1] as u64) << 8)
-        ^ ((bytes[i + 2] as u64) << 16)
-        ^ ((bytes[i + 3] as u64) << 24)
-        ^ ((bytes[i + 4] as u64) << 32)
-        ^ ((bytes[i + 5] as u64) << 40)
-        ^ ((bytes[i + 6] as u64) << 48)
-        ^ ((bytes[i + 7] as u64) << 56)
-}
-
-// Writes the eight bytes of a lane from byte i on, the lowest first.
-fn write_lane(out: &mut [u8], i: usize, lane: u64)
-    requires { ⌜ i + 8 ≤ length (now out) ⌝ }
-    ensures before { λ _. ⌜ ((j : ℕ) → j < i → getD (now (out .exit)) j 0 ≡ getD (now (out .entry)) j 0) ⌝ }
-    ensures bytes { λ _. ⌜ ((j : ℕ) → j < 8 → getD (now (out .exit)) (i + j) 0 ≡ lane / 2 ^ (8 * j) % 256) ⌝ }
-{
-    for j in 0..8usize {
-        out[i + j] = ((lane >> (8 * j)) & 0xff) as u8;
-    }
-}
-
-impl KeccakState {
-    // Xors a byte into byte `at`.
-    fn mix(&mut self, at: usize, byte: u8)
-        requires { ⌜ at < 200 ⌝ }
-        ensures { λ _. ⌜ now (self .exit) .lanes ≡ withByte (now (self .entry) .lanes) at byte ⌝ }
-    {
-        let shift = 8 * (at % 8) as u32;
-        self.lanes[at / 8] ^= (byte as u64) << shift;
-    }
-
-    // Xors a lane into lane `at`.
-    fn mix_lane(&mut self, at: usize, lane: u64)
-        requires { ⌜ at < 25 ⌝ }
-        ensures { λ _. ⌜ now (self .exit) .lanes ≡ set (now (self .entry) .lanes) at (bitXor (getD (now (self .entry) .lanes) at 0) lane) ⌝ }
-    {
-        self.lanes[at] ^= lane;
-    }
-
-    // Byte `at`.
-    fn byte(&self, at: usize) -> u8
-        requires { ⌜ at < 200 ⌝ }
-        ensures { λ r. ⌜ r ≡ byteAt (now (self .entry) .lanes) at ⌝ }
-    {
-        let shift = 8 * (at % 8) as u32;
-        ((self.lanes[at / 8] >> shift) & 0xff) as u8
-    }
 }
 
 impl Sponge {
@@ -156,6 +102,7 @@ impl Sponge {
         write_lane(out, i, self.state.lanes[self.pos / 8]);
         self.advance(8);
     }
+
     // Gives the next bytes, once it has turned.
     fn draw(&mut self, out: &mut [u8])
         ensures { λ _. ⌜ ((m : List ℕ) (k : ℕ) → Turned (now (self .entry)) m k → (now (out .exit) ≡ shake m k (length (now (out .entry)))) × Turned (now (self .exit)) m (k + length (now (out .entry)))) ⌝ }

@@ -1,8 +1,8 @@
 // SHAKE256 as a sponge that is fed and read in pieces of any size, and the tagged hashes over it.
+mod access;
 mod calls;
 mod hasher;
 mod hashes;
-mod keccak;
 pub mod state;
 pub mod theorems;
 

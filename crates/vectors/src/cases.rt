@@ -13,29 +13,24 @@ pub enum Case {
 }
 
 pub fn run(heap: Global, line: &str) -> Case {
-    let mut words = line.split(' ');
-    match (
-        words.next(),
-        words.next(),
-        words.next(),
-        words.next(),
-        words.next(),
-    ) {
-        (Some("aes128"), Some(key), Some(block), Some(answer), None) => encipher(
-            heap,
-            key,
-            block,
-            answer,
-        ),
-        (Some("shake256"), Some(message), Some(taken), Some(given), Some(answer)) => hash(
-            heap,
-            message,
-            taken,
-            given,
-            answer,
-        ),
+    match line.split_once(' ') {
+        Some(("aes128", rest)) => encipher(heap, rest),
+        Some(("shake256", rest)) => hash(heap, rest),
         _ => Case::Unreadable,
     }
+}
+
+// The bytes that a word stands for.
+fn bytes(heap: Global, word: Option<&str>) -> Option<Vec<u8>> {
+    match word {
+        Some("-") => Some(Vec::new(heap)),
+        Some(text) => hex::decode(heap, text.as_bytes()).ok(),
+        None => None,
+    }
+}
+
+fn size(word: Option<&str>) -> Option<usize> {
+    word?.parse::<usize>().ok()
 }
 
 fn block(bytes: &[u8]) -> Option<[u8; 16]> {
@@ -47,11 +42,12 @@ fn block(bytes: &[u8]) -> Option<[u8; 16]> {
     Some(block)
 }
 
-fn encipher(heap: Global, key: &str, plain: &str, answer: &str) -> Case {
-    let (Ok(key), Ok(plain), Ok(answer)) = (
-        hex::decode(heap, key.as_bytes()),
-        hex::decode(heap, plain.as_bytes()),
-        hex::decode(heap, answer.as_bytes()),
+fn encipher(heap: Global, text: &str) -> Case {
+    let mut words = text.split(' ');
+    let (Some(key), Some(plain), Some(answer)) = (
+        bytes(heap, words.next()),
+        bytes(heap, words.next()),
+        bytes(heap, words.next()),
     ) else {
         return Case::Unreadable;
     };
@@ -70,14 +66,14 @@ fn same(a: &[u8], b: &[u8]) -> bool {
     a == b
 }
 
-fn hash(heap: Global, message: &str, taken: &str, given: &str, answer: &str) -> Case {
-    let message = if message == "-" { "" } else { message };
-    let (Ok(message), Ok(taken), Ok(given), Ok(answer)) = (
-        hex::decode(heap, message.as_bytes()),
-        taken.parse::<usize>(),
-        given.parse::<usize>(),
-        hex::decode(heap, answer.as_bytes()),
-    ) else {
+fn hash(heap: Global, text: &str) -> Case {
+    let mut words = text.split(' ');
+    let message = bytes(heap, words.next());
+    let taken = size(words.next());
+    let given = size(words.next());
+    let answer = bytes(heap, words.next());
+    let (Some(message), Some(taken), Some(given), Some(answer)) = (message, taken, given, answer)
+    else {
         return Case::Unreadable;
     };
     if gives(&message, taken, given, &answer) {

@@ -1,7 +1,7 @@
 use mathlib.Core.Path.{refl}
-use Rattle.sponge.specs.Keccak.{thetaAt, theta, rho, pi, chi, iota, roundOf, rounds, permuted}
+use Rattle.keccak.specs.Keccak.{thetaAt, theta, rho, pi, chi, iota, roundOf, rounds, permuted}
 use Rattle.sponge.specs.Shake.{byteAt, withByte, mixed, ending, padded, blocks, closed, after, shakeByte, shake}
-use Rattle.sponge.specs.Tables.{walk, offsets, shifted, register, constantBit, constantOf, constants}
+use Rattle.keccak.specs.Tables.{walk, offsets, shifted, register, constantBit, constantOf, constants}
 use Rattle.sponge.proofs.theorems.vectors_stand.Needs as need
 
 pub returns : need.returns

@@ -1,9 +1,9 @@
-use mathlib.Core.Path.{_≡_, sym, ap, _∙_, subst}
+use mathlib.Core.Path.{ap, _∙_, subst}
 use mathlib.Core.List.{List, _++_}
 use Prim.Native.Nat.{ℕ, _+_}
 use native.Mathlib.Omega.{arith}
-use lib.ListN.{length, take, drop}
-use Rattle.std.proofs.shelf.Lists.{append-nil, append-assoc, take-all}
+use lib.ListN.{take, drop}
+use Rattle.std.proofs.shelf.Lists.{append-assoc, take-all}
 use Rattle.sponge.specs.declared.state.Sponge.{Sponge}
 use Rattle.sponge.specs.Sponges.{Absorbed}
 use Rattle.sponge.proofs.Lanes.{take-join}

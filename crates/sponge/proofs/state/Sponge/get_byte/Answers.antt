@@ -1,9 +1,9 @@
-use mathlib.Core.Path.{_≡_, sym, ap, ap₂, _∙_}
-use Prim.Native.Nat.{ℕ, _+_, _<_}
+use mathlib.Core.Path.{_≡_, ap, _∙_}
+use Prim.Native.Nat.{_+_, _<_}
 use native.Mathlib.Omega.{arith}
 use lib.ListN.{length, getD, set}
 use Rattle.std.proofs.shelf.Lists.{getD-set-same, getD-set-other}
-use Rattle.sponge.specs.Shake.{byteAt, shakeByte}
+use Rattle.sponge.specs.Shake.{byteAt}
 use Rattle.sponge.proofs.Steps.{given-on, given-byte}
 use Rattle.sponge.proofs.state.Sponge.get_byte.Needs as need
 

@@ -1,5 +1,4 @@
-use mathlib.Core.Path.{_≡_, _∙_}
-use Prim.Native.Nat.{ℕ, _+_, _<_}
+use mathlib.Core.Path.{_∙_}
 use native.Mathlib.Omega.{arith}
 use Rattle.sponge.proofs.Lanes.{lane-byte}
 use Rattle.sponge.proofs.Steps.{given-on, given-byte}

@@ -1,5 +1,5 @@
 use mathlib.Core.Path.{refl, sym, ap, ap₂, _∙_}
-use Rattle.sponge.specs.Keccak.{permuted}
+use Rattle.keccak.specs.Keccak.{permuted}
 use Rattle.sponge.specs.Shake.{withByte, after}
 use Rattle.sponge.specs.Sponges.{Absorbed, Turned}
 use Rattle.sponge.proofs.Blocks.{closing}
