@@ -6,7 +6,7 @@ ghost use Rattle.refusal.specs.Numbers.{numberOf, NoRefusal, NumbersDiffer};
 use std::fmt;
 
 // In the order of their numbers, which is the order in which a call tries them.
-#[derive(Clone, Copy, Debug, PartialEq, Eq)]
+#[derive(Clone, Copy, Debug)]
 pub enum Refusal {
     RecordLength = 1,
     Version = 2,

@@ -2,7 +2,7 @@
 ghost use mathlib.Core.Path.{_≡_};
 ghost use mathlib.Core.List.{List, [], _++_};
 ghost use Prim.Native.Nat.{ℕ};
-ghost use Rattle.sponge.specs.Hashes.{hashOf, Hashing};
+ghost use Rattle.sponge.specs.Hashes.{hashOf, Streaming, Hashing};
 use crate::state::Sponge;
 
 #[derive(Drop)]
@@ -35,5 +35,14 @@ impl Hasher {
         let mut out = [0; 32];
         sponge.squeeze(&mut out);
         out
+    }
+
+    // The endless output after all that was taken, from its beginning.
+    pub fn into_stream(self) -> Sponge
+        ensures { λ r. ⌜ ((tag : ℕ) (m : List ℕ) → Hashing self tag m → Streaming r tag m 0) ⌝ }
+    {
+        let Hasher { mut sponge } = self;
+        sponge.turn();
+        sponge
     }
 }

@@ -8,6 +8,5 @@ pub mod theorems;
 
 pub use hasher::Hasher;
 pub use hashes::hash;
-pub use hashes::shake256;
 pub use hashes::stream;
 pub use state::Sponge;
