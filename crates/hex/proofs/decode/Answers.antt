@@ -1,13 +1,8 @@
-use mathlib.Core.Path.{_≡_, sym, ap, ap₂, _∙_}
-use mathlib.Core.List.{List, []}
-use Prim.Native.Nat.{ℕ, suc, _+_, _*_, _/_, _<_}
+use mathlib.Core.Path.{sym}
+use Prim.Native.Nat.{_/_}
 use native.Mathlib.Omega.{arith}
-use lib.ListN.{length, getD, drop, drop-of-length-le}
-use Rattle.std.specs.declared.option.Option.the-variants.{Some}
-use Rattle.std.specs.Of.Vec.{vec-items}
-use Rattle.std.proofs.shelf.Lists.{append-nil}
-use Rattle.hex.specs.Digits.{byteOf, decoded}
-use Rattle.hex.proofs.Texts.{before, decoded-more, decoded-stops, decoded-odd}
+use lib.ListN.{length}
+use Rattle.hex.proofs.Texts.{decoded-turn, decoded-none, decoded-end, decoded-odd}
 use Rattle.hex.proofs.decode.Needs as need
 
 pub returns-then-text-ne0 : need.returns-then-text-ne0
@@ -15,27 +10,11 @@ returns-then-text-ne0 c = λ _. decoded-odd (c .args .text .now) (length (c .arg
 
 pub loop-i-again : need.loop-i-again
 loop-i-again c =
-    let text = c .args .text .now in
-    let i = c .loop-i .i in
-    let next : 2 * c .loop-i .i + 1 ≡ suc (2 * c .loop-i .i) = omega arith in
-    let past : suc (suc (2 * c .loop-i .i)) ≡ 2 * (c .loop-i .i + 1) = omega arith in
-    let is = ap (λ (j : ℕ). byteOf (getD text (2 * i) 0) (getD text j 0)) (sym next) ∙ sym (c .in-Some .ensures tt) in
-    c .loop-i .inv
-    ∙ decoded-more (vec-items (c .loop-i .bytes)) (c .in-Some .b) text (2 * i) (omega arith) is
-    ∙ ap₂ (λ (xs : List ℕ) (j : ℕ). before xs (decoded (drop j text))) (sym (c .in-Ok .ensures tt .items)) past
+    decoded-turn (c .args .text .now) (c .loop-i .i) (c .in-Some .b) _ _ (omega arith) (sym (c .in-Some .ensures tt)) (c .in-Ok .ensures tt .items)
+    (c .loop-i .inv)
 
 pub returns-in-rest : need.returns-in-rest
-returns-in-rest c = λ _.
-    let text = c .args .text .now in
-    let i = c .loop-i .i in
-    let next : 2 * c .loop-i .i + 1 ≡ suc (2 * c .loop-i .i) = omega arith in
-    let is = ap (λ (j : ℕ). byteOf (getD text (2 * i) 0) (getD text j 0)) (sym next) ∙ sym (c .in-rest .ensures tt) in
-    c .loop-i .inv ∙ decoded-stops (vec-items (c .loop-i .bytes)) text (2 * i) (omega arith) is
+returns-in-rest c = λ _. decoded-none (c .args .text .now) (c .loop-i .i) _ (omega arith) (sym (c .in-rest .ensures tt)) (c .loop-i .inv)
 
 pub returns : need.returns
-returns c =
-    let text = c .args .text .now in
-    let all = drop-of-length-le text {i = 2 * c .loop-i .i} (omega arith) in
-    c .loop-i .inv
-    ∙ ap (λ (l : List ℕ). before (vec-items (c .loop-i .bytes)) (decoded l)) all
-    ∙ ap (λ (l : List ℕ). Some l) (append-nil (vec-items (c .loop-i .bytes)))
+returns c = decoded-end (c .args .text .now) (c .loop-i .i) _ (omega arith) (c .loop-i .inv)
