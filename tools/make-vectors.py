@@ -64,3 +64,6 @@ for length in [*range(0, 20), *range(126, 146), *range(262, 282), 407, 408, 409,
     message = draw.randbytes(length)
     for taken, given in ((300, 300), (draw.randrange(1, 140), draw.randrange(1, 140))):
         write_shake(message, taken, given, draw.choice((1, 32, 64, 135, 136, 137, 150)))
+
+# One operation repeated, each time on the last result.
+print("repeat block 10")

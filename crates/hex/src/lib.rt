@@ -23,7 +23,7 @@ fn digit(n: u8) -> char
 }
 
 // What a digit stands for, in either case of its letter.
-pub fn value(c: u8) -> Option<u8>
+fn value(c: u8) -> Option<u8>
     ensures value { λ r. ⌜ r ≡ valueOf c ⌝ }
     ensures bound { λ r. ⌜ BySome r (Unit {0}) (λ v. v < 16) ⌝ }
 {

@@ -9,8 +9,8 @@ use algebra::Mod251;
 use algebra::binary::Gf256Field;
 use algebra::prime::Mod251Field;
 use cipher::Aes128;
+use hashes::Hasher;
 use refusal::RefusalDisplay;
-use sponge::Hasher;
 use sponge::Sponge;
 
 const MESSAGE: &[u8] = b"Plan 17, sheet 3: the boundary runs from stone A to stone B.";
@@ -84,7 +84,7 @@ fn encipher(rt: &LibcRuntime) -> Result<(), Failure> {
 }
 
 fn hash(rt: &LibcRuntime) -> Result<(), Failure> {
-    let whole = sponge::hash(MESSAGE_TAG, &[MESSAGE]);
+    let whole = hashes::hash(MESSAGE_TAG, &[MESSAGE]);
     let mut hasher = Hasher::new(MESSAGE_TAG);
     let (front, back) = MESSAGE.split_at(10);
     hasher.update(front);

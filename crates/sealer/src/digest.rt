@@ -2,7 +2,7 @@
 use crate::failure::Failure;
 use crate::failure::FailureFromAlloc;
 use crate::failure::FailureFromIo;
-use sponge::Hasher;
+use hashes::Hasher;
 use std::fs::File;
 use std::io;
 use std::io::Read;

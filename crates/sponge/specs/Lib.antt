@@ -1,4 +1,3 @@
-pub mod Hashes
 pub mod Shake
 pub mod Sponges
 pub mod Statements

@@ -1,4 +1,5 @@
 // One case.
+use crate::repeats;
 use cipher::Aes128;
 use sponge::Sponge;
 use std::alloc::Global;
@@ -8,6 +9,7 @@ use std::alloc::Global;
 pub enum Case {
     Cipher,
     Hash,
+    Repeated(u8),
     Differs,
     Unreadable,
 }
@@ -16,6 +18,7 @@ pub fn run(heap: Global, line: &str) -> Case {
     match line.split_once(' ') {
         Some(("aes128", rest)) => encipher(heap, rest),
         Some(("shake256", rest)) => hash(heap, rest),
+        Some(("repeat", rest)) => repeat(rest),
         _ => Case::Unreadable,
     }
 }
@@ -80,6 +83,20 @@ fn hash(heap: Global, text: &str) -> Case {
         Case::Hash
     } else {
         Case::Differs
+    }
+}
+
+fn repeat(text: &str) -> Case {
+    let mut words = text.split(' ');
+    let what = words.next();
+    let Some(count) = size(words.next()) else {
+        return Case::Unreadable;
+    };
+    match what {
+        Some("block") => Case::Repeated(repeats::blocks(count)),
+        Some("key") => Case::Repeated(repeats::keys(count)),
+        Some("sponge") => Case::Repeated(repeats::hashed(count)),
+        _ => Case::Unreadable,
     }
 }
 

@@ -1,12 +1,12 @@
 // Runs test cases whose answers come from other implementations, and says how many agree. Each line of the input is a case:
 //   aes128 KEY BLOCK ANSWER
 //   shake256 MESSAGE TAKEN GIVEN ANSWER     the message in pieces of TAKEN bytes, the answer in pieces of GIVEN; - is no bytes
-// With two words, `block N`, `key N` or `sponge N`, it repeats one operation N times instead, to be measured.
+// or an operation to be repeated and measured:
+//   repeat block N, repeat key N, repeat sponge N
 mod cases;
 mod repeats;
 
 use cases::Case;
-use std::env;
 use std::error::AnyError;
 use std::io::BufRead;
 use std::io::BufReader;
@@ -16,26 +16,6 @@ fn main(rt: LibcRuntime) -> Result<(), AnyError> {
 }
 
 fn run(rt: &LibcRuntime) -> Result<(), AnyError> {
-    let mut words = env::args(rt)?;
-    let _program = words.next();
-    match (words.next(), words.next()) {
-        (Some(what), Some(count)) => repeat(rt, what.as_str(), count.as_str().parse::<u32>()?),
-        _ => compare(rt),
-    }
-}
-
-fn repeat(rt: &LibcRuntime, what: &str, count: u32) -> Result<(), AnyError> {
-    let result = match what {
-        "block" => repeats::blocks(count),
-        "key" => repeats::keys(count),
-        "sponge" => repeats::hashed(count),
-        _ => return Err("what to repeat is block, key or sponge".into()),
-    };
-    println!(rt, "{result}")?;
-    Ok(())
-}
-
-fn compare(rt: &LibcRuntime) -> Result<(), AnyError> {
     let mut ciphers = 0u64;
     let mut hashes = 0u64;
     let mut line_number = 0u64;
@@ -45,6 +25,10 @@ fn compare(rt: &LibcRuntime) -> Result<(), AnyError> {
         match cases::run(rt.alloc(), line.as_str()) {
             Case::Cipher => ciphers = ciphers.saturating_add(1),
             Case::Hash => hashes = hashes.saturating_add(1),
+            Case::Repeated(result) => println!(
+                rt,
+                "{line}: the last result begins with {result:02x}"
+            )?,
             Case::Differs => {
                 println!(rt, "line {line_number}: the answer differs: {line}")?;
                 return Err("a case differs".into());

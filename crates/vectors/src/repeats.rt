@@ -1,10 +1,10 @@
 // One operation repeated, for bench/measure to count its instructions. Each answers the first byte of its last result, which tells that the
 // work was done.
 use cipher::Aes128;
-use sponge::Hasher;
+use hashes::Hasher;
 
 // Enciphers a block under a kept key, and then what came out.
-pub fn blocks(count: u32) -> u8 {
+pub fn blocks(count: usize) -> u8 {
     let cipher = Aes128::new(&[7; 16]);
     let mut block = [0u8; 16];
     for _ in 0..count {
@@ -14,7 +14,7 @@ pub fn blocks(count: u32) -> u8 {
 }
 
 // Makes the schedule of a key, and then of a block under it.
-pub fn keys(count: u32) -> u8 {
+pub fn keys(count: usize) -> u8 {
     let mut key = [7u8; 16];
     for _ in 0..count {
         key = Aes128::new(&key).encrypt(&[0; 16]);
@@ -23,7 +23,7 @@ pub fn keys(count: u32) -> u8 {
 }
 
 // Hashes blocks of 136 bytes.
-pub fn hashed(count: u32) -> u8 {
+pub fn hashed(count: usize) -> u8 {
     let mut hasher = Hasher::new(0);
     for _ in 0..count {
         hasher.update(&[7; 136]);

@@ -1,10 +1,10 @@
 -- The tagged hashes: SHAKE256 over a tag byte and a message. Assumes nothing.
 use mathlib.Core.List.{List, _∷_}
 use Prim.Native.Nat.{ℕ}
-use Rattle.sponge.specs.declared.hasher.Hasher.{Hasher}
+use Rattle.hashes.specs.declared.hasher.Hasher.{Hasher}
 use Rattle.sponge.specs.declared.state.Sponge.{Sponge}
 use Rattle.sponge.specs.Shake.{shake}
 use Rattle.sponge.specs.Sponges.{Absorbed, Turned}
 
 -- H(tag, m), of 32 bytes
 abbrev pub hashOf : ℕ → List ℕ → List ℕ

@@ -5,8 +5,8 @@ use native.Mathlib.Omega.{arith}
 use lib.ListN.{length, getD, take}
 use Rattle.std.specs.Joined.{joined}
 use Rattle.std.proofs.shelf.Lists.{take-more, take-all, joined-more}
-use Rattle.sponge.specs.Hashes.{Hashing}
-use Rattle.sponge.proofs.hashes.fed.Needs as need
+use Rattle.hashes.specs.Hashes.{Hashing}
+use Rattle.hashes.proofs.strings.fed.Needs as need
 
 parts-more : {X : Type 0} (f : X → List ℕ) (xs : List X) (i : ℕ) (d : X) → i < length xs → joined f (take i xs) ++ f (getD xs i d) ≡ joined f (take (i + 1) xs)
 parts-more f xs i d h = joined-more f [] (take i xs) (getD xs i d) ∙ ap (joined f) (sym (take-more xs i d h))

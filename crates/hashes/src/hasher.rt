@@ -2,8 +2,8 @@
 ghost use mathlib.Core.Path.{_≡_};
 ghost use mathlib.Core.List.{List, [], _++_};
 ghost use Prim.Native.Nat.{ℕ};
-ghost use Rattle.sponge.specs.Hashes.{hashOf, Streaming, Hashing};
-use crate::state::Sponge;
+ghost use Rattle.hashes.specs.Hashes.{hashOf, Streaming, Hashing};
+use sponge::Sponge;
 
 #[derive(Drop)]
 pub struct Hasher {
@@ -16,7 +16,7 @@ impl Hasher {
         ensures { λ r. ⌜ Hashing r tag [] ⌝ }
     {
         let mut sponge = Sponge::new();
-        sponge.feed(&[tag]);
+        let _ = sponge.absorb(&[tag]);
         Hasher { sponge }
     }
 
@@ -24,7 +24,7 @@ impl Hasher {
     pub fn update(&mut self, bytes: &[u8])
         ensures { λ _. ⌜ ((tag : ℕ) (m : List ℕ) → Hashing (now (self .entry)) tag m → Hashing (now (self .exit)) tag (m ++ now (bytes .entry))) ⌝ }
     {
-        self.sponge.feed(bytes);
+        let _ = self.sponge.absorb(bytes);
     }
 
     // The hash of all that was taken.
@@ -42,7 +42,8 @@ impl Hasher {
         ensures { λ r. ⌜ ((tag : ℕ) (m : List ℕ) → Hashing self tag m → Streaming r tag m 0) ⌝ }
     {
         let Hasher { mut sponge } = self;
-        sponge.turn();
+        let mut nothing = [0; 0];
+        sponge.squeeze(&mut nothing);
         sponge
     }
 }

@@ -1,9 +1,9 @@
 // The tagged hashes of strings at hand: H, of 32 bytes, and S, an endless stream.
 ghost use mathlib.Core.Path.{_≡_};
 ghost use Rattle.std.specs.Joined.{joined};
-ghost use Rattle.sponge.specs.Hashes.{hashOf, Streaming, Hashing};
+ghost use Rattle.hashes.specs.Hashes.{hashOf, Streaming, Hashing};
 use crate::hasher::Hasher;
-use crate::state::Sponge;
+use sponge::Sponge;
 
 // A hasher that has taken the parts.
 fn fed(tag: u8, parts: &[&[u8]]) -> Hasher
