@@ -12,7 +12,7 @@ pub impl Field for Mod251 as Mod251Field {
     ghost sampled = { firstBelow };
 
     fn size() -> usize {
-        251
+        MODULUS as usize
     }
 
     fn zero() -> Mod251 {
