@@ -1,4 +1,6 @@
 // Finite fields: the trait, the two fields that keep its laws, sums over any field, and what holds over every field.
+#![tactic(auto)]
+
 pub mod binary;
 mod elements;
 pub mod field;

@@ -1,4 +1,6 @@
 // AES-128 (FIPS 197) with a kept key. `Aes128::new` takes a key, and `encrypt` a block of sixteen bytes.
+#![tactic(auto)]
+
 ghost use Rattle.cipher.specs.Examples.{BlockExample, ColumnExample};
 
 mod expansion;

@@ -1,4 +1,6 @@
 // A short seed made long: expanders of seeds, the streams of bytes that they and the tagged hash give, and elements sampled from them.
+#![tactic(auto)]
+
 pub mod aes;
 pub mod expander;
 mod keyed;

@@ -2,6 +2,8 @@
 //
 // A step map is a function of one lane, as the standard writes it, and one that makes all 25 at fixed indices, which the compiler inlines
 // and computes.
+#![tactic(auto)]
+
 ghost use Rattle.std.specs.Prelude.{◌≡◌, ◌<◌, map};
 ghost use Rattle.std.specs.List.{range_with_len};
 ghost use Rattle.keccak.specs.Keccak.{column, theta_at, theta as theta_of, rho_at, rho as rho_of, pi_at, pi as pi_of, chi_at, chi as chi_of, round_of, permuted};

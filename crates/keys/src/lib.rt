@@ -1,4 +1,6 @@
 // Making a key pair: from a profile, the seed of the matrix and the word x to the two records.
+#![tactic(auto)]
+
 mod admitting;
 mod codes;
 mod filling;

@@ -1,4 +1,6 @@
 // What the secret of a key must solve: profiles and their limits, what a lock is, and the word that its unknowns stand for.
+#![tactic(auto)]
+
 pub mod instance;
 pub mod limits;
 pub mod lock;

@@ -1,4 +1,6 @@
 // The records of a key pair: typed values, reading with refusals, and writing.
+#![tactic(auto)]
+
 pub mod elements;
 pub mod head;
 pub mod opening;

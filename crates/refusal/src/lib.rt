@@ -1,4 +1,6 @@
 // Why a call is refused, with the number that it returns.
+#![tactic(auto)]
+
 ghost use Rattle.std.specs.Prelude.{◌≡◌, ℕ, MatchOption};
 ghost use Rattle.refusal.specs.Numbers.{number_of, NoRefusal, NumbersDiffer};
 

@@ -1,4 +1,6 @@
 // The regular lock: a word in which each block has exactly one [1] and otherwise [0].
+#![tactic(auto)]
+
 mod hot;
 mod level;
 pub mod regular;

@@ -47,9 +47,9 @@ fn fields(rt: &HostRuntime) -> Result<(), Failure> {
 
 fn encipher(rt: &HostRuntime) -> Result<(), Failure> {
     let out = Aes128::new(&KEY).encrypt(&BLOCK);
-    let key = hex::encode(rt.alloc(), &KEY)?;
-    let block = hex::encode(rt.alloc(), &BLOCK)?;
-    let result = hex::encode(rt.alloc(), &out)?;
+    let key = hexadecimal::encode(rt.alloc(), &KEY)?;
+    let block = hexadecimal::encode(rt.alloc(), &BLOCK)?;
+    let result = hexadecimal::encode(rt.alloc(), &out)?;
     println!(rt;
         "Cipher
   AES-128 under the key {key}
@@ -66,7 +66,7 @@ fn hash(rt: &HostRuntime) -> Result<(), Failure> {
     hasher.update(front);
     hasher.update(back);
     let agree = hasher.finish() == whole;
-    let digest = hex::encode(rt.alloc(), &whole)?;
+    let digest = hexadecimal::encode(rt.alloc(), &whole)?;
     println!(rt;
         "Sponge
   the message of {} bytes has the digest

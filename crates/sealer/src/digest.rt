@@ -50,7 +50,7 @@ fn of_file(rt: &HostRuntime, name: &str) -> io::Result<[u8; 32]> {
 pub fn print(rt: &HostRuntime, name: &str) -> Result<bool, Failure> {
     match of_file(rt, name) {
         Ok(digest) => {
-            let text = hex::encode(rt.alloc(), &digest)?;
+            let text = hexadecimal::encode(rt.alloc(), &digest)?;
             println!(rt; "{text}  {name}")?;
             Ok(true)
         }

@@ -1,4 +1,6 @@
 // The command `sealer`: what it can do, with examples, is in help.rt.
+#![tactic(auto)]
+
 mod demo;
 mod digest;
 mod failure;

@@ -1,4 +1,6 @@
 // The same calls for programs: field, lock and expander are picked by their codes.
+#![tactic(auto)]
+
 mod failure;
 mod making;
 mod reading;

@@ -1,4 +1,6 @@
 // Theorems that several crates need. Each function does nothing; its contract is a theorem, and the proofs of other crates cite it.
+#![tactic(auto)]
+
 ghost use Rattle.theory.specs.Statements.{RuleAtEachEntry, FewBelow, FillsOneMore, AccumulatesOneMore, EndianInverse};
 
 // A table whose computed test holds has its rule at each entry.

@@ -27,7 +27,7 @@ pub fn run(heap: Global, line: &str) -> Case {
 fn bytes(heap: Global, word: Option<&str>) -> Option<Vec<u8>> {
     match word {
         Some("-") => Some(Vec::new(heap)),
-        Some(text) => hex::decode(heap, text.as_bytes()).ok(),
+        Some(text) => hexadecimal::decode(heap, text.as_bytes()).ok(),
         None => None,
     }
 }

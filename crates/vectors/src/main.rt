@@ -3,6 +3,8 @@
 //   shake256 MESSAGE TAKEN GIVEN ANSWER     the message in pieces of TAKEN bytes, the answer in pieces of GIVEN; - is no bytes
 // or an operation to be repeated and measured:
 //   repeat block N, repeat key N, repeat sponge N
+#![tactic(auto)]
+
 mod cases;
 mod repeats;
 

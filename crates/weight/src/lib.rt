@@ -1,4 +1,6 @@
 // The weight lock: the word of its unknowns has at most w elements other than zero.
+#![tactic(auto)]
+
 pub mod equations;
 mod locator;
 mod roots;

@@ -21,7 +21,7 @@ loop-i-preserved c =
     let b = c.loop-i.shifted in
     let k = 8 - (c.loop-i.i + 1) in
     let n : 8 - c.loop-i.i ≡ suc (8 - (c.loop-i.i + 1)) = omega arith in
-    let twice = c.times-x-shifted.ensures in (
+    let twice = c.times_x-shifted.ensures in (
       subst (λ (x : ℕ). x < 256) (sym twice) (double_lt b c.loop-i.invariant.0),
       c.loop-i.invariant.1
           ∙ ap (λ (j : ℕ). bit_xor s (product_of j a b)) n

@@ -1,7 +1,7 @@
 use Rattle.std.proofs.Common.{◌≡◌, ◌*◌, drop, vec_items}
-use Rattle.hex.specs.Digits.{decoded}
-use Rattle.hex.proofs.Texts.{before}
-use Rattle.hex.proofs.decode.Given as goal
+use Rattle.hexadecimal.specs.Digits.{decoded}
+use Rattle.hexadecimal.proofs.Texts.{before}
+use Rattle.hexadecimal.proofs.decode.Given as goal
 
 abbrev pub invariant-loop-i : goal.invariant-loop-i
 invariant-loop-i l = decoded l.text ≡ before (vec_items l.bytes) (decoded (drop (2 * l.i) l.text))

@@ -2,7 +2,7 @@
 use Rattle.std.proofs.Common.{◌≡◌, ℕ, zero, suc, ◌+◌, ◌*◌, ◌/◌, ◌%◌, ◌<◌, ◌≤◌, List, [], ◌∷◌, ◌++◌, length, get_or, take, drop, Some, None, Option, sym, refl, ap, ◌∙◌, ap₂, append_assoc, arith, drop_of_length-le, drop-cons}
 use Rattle.std.proofs.lemmas.List.{append-nil, take_more}
 use Rattle.std.proofs.lemmas.Bool.Decides.{nat_tests}
-use Rattle.hex.specs.Digits.{digit_of, encoded, byte_of, cons, decoded}
+use Rattle.hexadecimal.specs.Digits.{digit_of, encoded, byte_of, cons, decoded}
 
 pub digit_ascii : (n : ℕ) → n < 16 → digit_of n < 128
 digit_ascii n h = grind (arith, nat_tests)

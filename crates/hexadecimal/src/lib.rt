@@ -1,6 +1,8 @@
 // Bytes in hexadecimal, for people and for files of cases.
+#![tactic(auto)]
+
 ghost use Rattle.std.specs.Prelude.{◌≡◌, ℕ, ◌<◌, IfSome, IfOk, Some, None, string_bytes, MatchResult};
-ghost use Rattle.hex.specs.Digits.{digit_of, encoded, value_of, byte_of, decoded};
+ghost use Rattle.hexadecimal.specs.Digits.{digit_of, encoded, value_of, byte_of, decoded};
 
 use std::alloc::{AllocError, Global};
 

@@ -1,6 +1,6 @@
 use Rattle.std.proofs.Common.{◌/◌, length, sym, arith}
-use Rattle.hex.proofs.Texts.{decoded_turn, decoded_none, decoded_end, decoded_odd}
-use Rattle.hex.proofs.decode.Goals as goal
+use Rattle.hexadecimal.proofs.Texts.{decoded_turn, decoded_none, decoded_end, decoded_odd}
+use Rattle.hexadecimal.proofs.decode.Goals as goal
 
 pub returns-then-text-ne0 : goal.returns-then-text-ne0
 returns-then-text-ne0 c = λ _. decoded_odd c.args.text.now (length c.args.text.now / 2) (omega arith)

@@ -1,6 +1,6 @@
 use Rattle.std.proofs.Common.{◌≡◌, take, string_bytes}
-use Rattle.hex.specs.Digits.{encoded}
-use Rattle.hex.proofs.encode.Given as goal
+use Rattle.hexadecimal.specs.Digits.{encoded}
+use Rattle.hexadecimal.proofs.encode.Given as goal
 
 abbrev pub invariant-loop-b : goal.invariant-loop-b
 invariant-loop-b l = string_bytes l.text ≡ encoded (take l.b-index l.bytes)
