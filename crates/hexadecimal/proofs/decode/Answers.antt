@@ -10,8 +10,8 @@ loop-i-preserved c =
     decoded_turn c.args.text.now c.loop-i.i c.in-Some.b _ _ (omega arith) (sym c.in-Some.ensures) c.in-Ok.ensures.items
     c.loop-i.invariant
 
-pub returns-in-default : goal.returns-in-default
-returns-in-default c = λ _. decoded_none c.args.text.now c.loop-i.i _ (omega arith) (sym c.in-default.ensures) c.loop-i.invariant
+pub returns-in_default : goal.returns-in_default
+returns-in_default c = λ _. decoded_none c.args.text.now c.loop-i.i _ (omega arith) (sym c.in_default.ensures) c.loop-i.invariant
 
 pub returns : goal.returns
 returns c = decoded_end c.args.text.now c.loop-i.i _ (omega arith) c.loop-i.invariant

@@ -7,8 +7,8 @@ use Rattle.algebra.proofs.binary.product.Goals as goal
 pub loop-i-init : goal.loop-i-init
 loop-i-init c = (omega arith, sym (xor_zero_l (product_of 8 c.args.a c.args.b)))
 
-pub overflow-mul-sum : goal.overflow-mul-sum
-overflow-mul-sum c = record { fits = scaled_lt c.loop-i.bits c.loop-i.shifted c.loop-i.invariant.0 }
+pub overflow_mul-sum : goal.overflow_mul-sum
+overflow_mul-sum c = record { fits = scaled_lt c.loop-i.bits c.loop-i.shifted c.loop-i.invariant.0 }
 
 one_more : (k a b : ℕ) → product_of (suc k) a b ≡ bit_xor ((a % 2) * b) (product_of k (a / 2) (double b))
 unfolding product_of

@@ -5,4 +5,4 @@ use Rattle.cipher.proofs.state.sub_shift.Goals as goal
 
 pub returns : goal.returns
 unfolding sub_word sub_bytes shift_rows
-returns c = same c.sub-word.ensures c.sub-word-2.ensures c.sub-word-3.ensures c.sub-word-4.ensures
+returns c = same c.sub_word.ensures c.sub_word-2.ensures c.sub_word-3.ensures c.sub_word-4.ensures

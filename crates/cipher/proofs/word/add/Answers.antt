@@ -6,5 +6,5 @@ use Rattle.cipher.proofs.word.add.Goals as goal
 pub returns : goal.returns
 unfolding add_words
 returns c =
-    c.to-le-bytes.ensures
+    c.to_le_bytes.ensures
     ∙ bytes_of _ _ (add-number c.args.a c.args.b c.number.result c.number-2.result c.number.ensures c.number-2.ensures)

@@ -5,4 +5,4 @@ use Rattle.cipher.proofs.word.double.Goals as goal
 
 pub returns : goal.returns
 unfolding double_word
-returns c = c.to-le-bytes.ensures ∙ bytes_of _ _ (double-number c.args.a c.number-bytes.result c.number-bytes.ensures)
+returns c = c.to_le_bytes.ensures ∙ bytes_of _ _ (double-number c.args.a c.number-bytes.result c.number-bytes.ensures)

@@ -4,8 +4,8 @@ use Rattle.cipher.specs.Keyed.{key_of}
 use Rattle.cipher.proofs.Schedules.{length_schedule, bytes_schedule}
 use Rattle.cipher.proofs.key.Aes128.new.Goals as goal
 
-pub invariant-of-result : goal.invariant-of-result
-invariant-of-result c =
+pub invariant_of-result : goal.invariant_of-result
+invariant_of-result c =
     let key = c.args.key.now in
     let same = c.expand-words.ensures in
     let back : bytes_of c.expand-words.result ≡ key = ap bytes_of same ∙ bytes_schedule key c.told-key in

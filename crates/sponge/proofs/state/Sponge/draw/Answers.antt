@@ -34,7 +34,7 @@ loop-i-preserved c = (
   omega arith,
   λ m k a.
       let inv = c.loop-i.invariant.1 m k a in
-      further c.get-byte.new.self m k c.loop-i.i 1 c.loop-i.out c.get-byte.new.out inv.0 (c.get-byte.ensures m (k + c.loop-i.i) inv.1),
+      further c.get_byte.new.self m k c.loop-i.i 1 c.loop-i.out c.get_byte.new.out inv.0 (c.get_byte.ensures m (k + c.loop-i.i) inv.1),
 )
 
 pub returns : goal.returns

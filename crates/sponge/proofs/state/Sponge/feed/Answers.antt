@@ -10,11 +10,11 @@ longer s m bs i n = subst (Absorbed s) (append_assoc m (take i bs) (take n (drop
 
 pub loop-i-preserved-then-bytes-i-ge8 : goal.loop-i-preserved-then-bytes-i-ge8
 loop-i-preserved-then-bytes-i-ge8 c =
-    (omega arith, λ m a. longer c.put-lane.new.self m c.args.bytes.now c.loop-i.i 8 (c.put-lane.ensures _ (c.loop-i.invariant.1 m a)))
+    (omega arith, λ m a. longer c.put_lane.new.self m c.args.bytes.now c.loop-i.i 8 (c.put_lane.ensures _ (c.loop-i.invariant.1 m a)))
 
 pub loop-i-preserved : goal.loop-i-preserved
 loop-i-preserved c =
-    (omega arith, λ m a. longer c.put-byte.new.self m c.args.bytes.now c.loop-i.i 1 (c.put-byte.ensures _ (c.loop-i.invariant.1 m a)))
+    (omega arith, λ m a. longer c.put_byte.new.self m c.args.bytes.now c.loop-i.i 1 (c.put_byte.ensures _ (c.loop-i.invariant.1 m a)))
 
 pub returns : goal.returns
 returns c = λ m a.

@@ -7,9 +7,9 @@ pub returns : goal.returns
 returns c = λ m k a.
     let s = c.args.self.now in (
       (
-        c.write-lane.ensures.before,
+        c.write_lane.ensures.before,
         λ j h.
-            c.write-lane.ensures.bytes j h
+            c.write_lane.ensures.bytes j h
             ∙ lane_byte s.state.lanes s.pos j c.requires.place h
             ∙ given_byte s j (omega arith) m k a,
       ),

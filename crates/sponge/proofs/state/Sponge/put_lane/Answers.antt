@@ -19,8 +19,8 @@ returns c = λ m a.
     let n = take 8 (drop c.args.i c.args.bytes.now) in
     let all : length n ≡ 8 = length-take-le 8 (drop c.args.i c.args.bytes.now) (simp length-drop (omega arith)) in
     let xored =
-    c.mix-lane.ensures
-    ∙ ap (λ v. set lanes (p / 8) (bit_xor (get_or lanes (p / 8) 0) v)) c.lane-from.ensures
+    c.mix_lane.ensures
+    ∙ ap (λ v. set lanes (p / 8) (bit_xor (get_or lanes (p / 8) 0) v)) c.lane_from.ensures
     ∙ mixed_whole p n lanes c.requires.place (omega arith) all (ap length a.lanes ∙ length-held m) in
     let on = subst (λ l. Advanced p s.mode l 8 t) xored c.advance.ensures in
     taken s t n (omega arith) (subst (λ k. Advanced p s.mode (mixed p n lanes) k t) (sym all) on) m a
