@@ -9,7 +9,7 @@ invariant_of-result c =
     let key = c.args.key.now in
     let same = c.expand-words.ensures in
     let back : bytes_of c.expand-words.result ≡ key = ap bytes_of same ∙ bytes_schedule key c.told-key in
-    (ap length same ∙ length_schedule key, (same ∙ sym (ap schedule_of back), tt))
+    record { full = ap length same ∙ length_schedule key; expanded = same ∙ sym (ap schedule_of back) }
 
 pub returns : goal.returns
 unfolding key_of

@@ -26,7 +26,7 @@ loop-i-preserved-then-out-i-ge8 c = (
   omega arith,
   λ m k a.
       let inv = c.loop-i.invariant.1 m k a in
-      further c.get-lane.new.self m k c.loop-i.i 8 c.loop-i.out c.get-lane.new.out inv.0 (c.get-lane.ensures m (k + c.loop-i.i) inv.1),
+      further c.get_lane.new.self m k c.loop-i.i 8 c.loop-i.out c.get_lane.new.out inv.0 (c.get_lane.ensures m (k + c.loop-i.i) inv.1),
 )
 
 pub loop-i-preserved : goal.loop-i-preserved
