@@ -10,5 +10,5 @@ returns c =
     let out = c.args.out.now in
     record {
       place = refl;
-      after = record { is = put_mid-paste c.args.at _ out c.copy-from-slice.new.self bs n c.copy-from-slice.ensures.after (omega arith) refl ∙ paste_all out c.args.at bs n refl };
+      after = record { is = put_mid-paste c.args.at _ out c.copy_from_slice.new.self bs n c.copy_from_slice.ensures.after (omega arith) refl ∙ paste_all out c.args.at bs n refl };
     }

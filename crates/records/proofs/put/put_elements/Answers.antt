@@ -6,8 +6,8 @@ use Rattle.records.proofs.put.put_elements.Goals as goal
 pub loop-i-init : goal.loop-i-init
 loop-i-init g c = paste_none c.args.out.now c.args.at (map g.F.Field.ops.number c.args.elements.now)
 
-pub overflow-cast-out : goal.overflow-cast-out
-overflow-cast-out g c = omega (arith, small-number g.F.Field.ops g.met.F.Field.laws c.index-elements-i.result c.number.result c.number.ensures)
+pub overflow_cast-out : goal.overflow_cast-out
+overflow_cast-out g c = omega (arith, small-number g.F.Field.ops g.met.F.Field.laws c.index-elements-i.result c.number.result c.number.ensures)
 
 pub loop-i-preserved : goal.loop-i-preserved
 loop-i-preserved g c =

@@ -9,15 +9,15 @@ returns g c =
     let out = c.args.out.now in
     let at = c.args.at in
     let u = c.args.u.now in
-    let l1 = ap length c.to-be-bytes.ensures in
-    let p1 = c.put-bytes-at.ensures.place in
-    let p2 = c.put-bytes-at-2.ensures.place in
-    let p3 = c.put-elements.ensures.place in
+    let l1 = ap length c.to_be_bytes.ensures in
+    let p1 = c.put_bytes-at.ensures.place in
+    let p2 = c.put_bytes-at-2.ensures.place in
+    let p3 = c.put_elements.ensures.place in
     let inside : at ≤ length out = omega (arith, c.requires.room) in
-    let first = puts_same c.to-be-bytes.ensures c.put-bytes-at.ensures.after in
+    let first = puts_same c.to_be_bytes.ensures c.put_bytes-at.ensures.after in
     record {
       place = omega arith;
       after =
           puts_same (secret-parts o u (1 + length u) refl)
-          (joins (joins first c.put-bytes-at-2.ensures.after inside (omega arith)) c.put-elements.ensures.after inside (omega arith));
+          (joins (joins first c.put_bytes-at-2.ensures.after inside (omega arith)) c.put_elements.ensures.after inside (omega arith));
     }

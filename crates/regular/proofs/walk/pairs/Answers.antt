@@ -5,11 +5,11 @@ use Rattle.regular.proofs.walk.pairs.Goals as goal
 pub loop-t-init : goal.loop-t-init
 loop-t-init g c = pairs_none c.args.start c.args.size c.args.out.now c.requires.room
 
-pub overflow-add-end : goal.overflow-add-end
-overflow-add-end g c = omega (arith, pairs_room c.loop-t-test.true c.loop-t.invariant)
+pub overflow_add-end : goal.overflow_add-end
+overflow_add-end g c = omega (arith, pairs_room c.loop-t-test.true c.loop-t.invariant)
 
-pub slice-bounds-row-end : goal.slice-bounds-row-end
-slice-bounds-row-end g c = pairs_room c.loop-t-test.true c.loop-t.invariant
+pub slice_bounds-row-end : goal.slice_bounds-row-end
+slice_bounds-row-end g c = pairs_room c.loop-t-test.true c.loop-t.invariant
 
 pub loop-t-preserved : goal.loop-t-preserved
 loop-t-preserved g c = pairs_more _ c.loop-t-test.true refl c.loop-t.invariant c.row.auto.out c.row.ensures

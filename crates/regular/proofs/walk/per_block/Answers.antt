@@ -2,11 +2,11 @@ use Rattle.std.proofs.Common.{arith}
 use Rattle.regular.specs.Counts.{triangle_half, product_few}
 use Rattle.regular.proofs.walk.per_block.Goals as goal
 
-pub overflow-mul-result : goal.overflow-mul-result
-overflow-mul-result c = omega (arith, product_few c.args.size c.requires.high)
+pub overflow_mul-result : goal.overflow_mul-result
+overflow_mul-result c = omega (arith, product_few c.args.size c.requires.high)
 
-pub overflow-add-result : goal.overflow-add-result
-overflow-add-result c = omega (arith, product_few c.args.size c.requires.high)
+pub overflow_add-result : goal.overflow_add-result
+overflow_add-result c = omega (arith, product_few c.args.size c.requires.high)
 
 pub returns : goal.returns
 returns c =

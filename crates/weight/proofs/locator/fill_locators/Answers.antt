@@ -11,11 +11,11 @@ loop-t-preserved g c s n e =
     let cs = c.args.coefficients.now in
     let t = c.loop-t.t in
     let up : t ≡ t - 1 + 1 = omega arith in
-    value_more o cs s n (t - 1) c.index-coefficients-t.result c.loop-t.out c.horner-step.new.out (omega arith) c.index-coefficients-t.is
-    (c.loop-t.invariant s n e ∙ ap (λ (j : ℕ). valued o (drop j cs) s n) up) c.horner-step.ensures
+    value_more o cs s n (t - 1) c.index-coefficients-t.result c.loop-t.out c.horner_step.new.out (omega arith) c.index-coefficients-t.is
+    (c.loop-t.invariant s n e ∙ ap (λ (j : ℕ). valued o (drop j cs) s n) up) c.horner_step.ensures
 
 pub returns : goal.returns
 returns g c =
     let z : c.loop-t.t ≡ 0 = omega arith in
     let n = length c.args.out.now in
-    c.loop-t.invariant c.args.s n c.set-all.ensures ∙ ap (λ (j : ℕ). valued g.F.Field.ops (drop j c.args.coefficients.now) c.args.s n) z
+    c.loop-t.invariant c.args.s n c.set_all.ensures ∙ ap (λ (j : ℕ). valued g.F.Field.ops (drop j c.args.coefficients.now) c.args.s n) z

@@ -14,24 +14,24 @@ room g c =
 pub loop-i-init : goal.loop-i-init
 loop-i-init g c = grow_none g.F.Field.ops c.args.x.now c.args.coefficients.now c.requires.room
 
-pub overflow-add-degree : goal.overflow-add-degree
-overflow-add-degree g c = omega (arith, room g c)
+pub overflow_add-degree : goal.overflow_add-degree
+overflow_add-degree g c = omega (arith, room g c)
 
-pub slice-bounds-times-root-end : goal.slice-bounds-times-root-end
-slice-bounds-times-root-end g c = omega (arith, room g c)
+pub slice_bounds-times_root-end : goal.slice_bounds-times_root-end
+slice_bounds-times_root-end g c = omega (arith, room g c)
 
-pub slice-bounds-times-root-end-then-number-ne0 : goal.slice-bounds-times-root-end-then-number-ne0
-slice-bounds-times-root-end-then-number-ne0 g c =
-    let h = room g (goal.at.slice-bounds-times-root-end-then-number-ne0 g c).Then-number-ne0 in
+pub slice_bounds-times_root-end-then-number-ne0 : goal.slice_bounds-times_root-end-then-number-ne0
+slice_bounds-times_root-end-then-number-ne0 g c =
+    let h = room g (goal.at.slice_bounds-times_root-end-then-number-ne0 g c).Then-number-ne0 in
     sym (length-take-le (c.loop-i.degree + 1) c.loop-i.coefficients (omega arith))
 
-pub times-root-requires : goal.times-root-requires
-times-root-requires g c =
-    let h = room g (goal.at.times-root-requires g c).Then-number-ne0 in
+pub times_root-requires : goal.times_root-requires
+times_root-requires g c =
+    let h = room g (goal.at.times_root-requires g c).Then-number-ne0 in
     omega (arith, length-take-le (c.loop-i.degree + 1) c.loop-i.coefficients (omega arith))
 
-pub overflow-add-degree-then-number-ne0 : goal.overflow-add-degree-then-number-ne0
-overflow-add-degree-then-number-ne0 g c = omega (arith, room g (goal.at.overflow-add-degree-then-number-ne0 g c).Then-number-ne0)
+pub overflow_add-degree-then-number-ne0 : goal.overflow_add-degree-then-number-ne0
+overflow_add-degree-then-number-ne0 g c = omega (arith, room g (goal.at.overflow_add-degree-then-number-ne0 g c).Then-number-ne0)
 
 pub loop-i-preserved : goal.loop-i-preserved
 loop-i-preserved g c =
@@ -45,8 +45,8 @@ loop-i-preserved g c =
     elim c.if-number-ne0.branch [
       | then-number-ne0 w ↦
           grow_yes o xs i x n c.loop-i-test.true c.index-x-i.is c.number.ensures c.loop-i.degree c.if-number-ne0.degree w.element.result
-          was w.times-root.new.coefficients now w.if-number-ne0.true w.degree-is w.element.ensures c.if-number-ne0.auto.coefficients
-          w.coefficients-is w.times-root.ensures c.loop-i.invariant
+          was w.times_root.new.coefficients now w.if-number-ne0.true w.degree-is w.element.ensures c.if-number-ne0.auto.coefficients
+          w.coefficients-is w.times_root.ensures c.loop-i.invariant
       | else-number-ne0 w ↦
           grow_no o xs i x n c.loop-i-test.true c.index-x-i.is c.number.ensures c.loop-i.degree c.if-number-ne0.degree was now
           w.if-number-ne0.false w.degree-is w.coefficients-is c.loop-i.invariant

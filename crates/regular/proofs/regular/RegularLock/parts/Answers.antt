@@ -5,5 +5,5 @@ use Rattle.regular.proofs.regular.RegularLock.parts.Goals as goal
 
 pub returns : goal.returns
 returns g c =
-    join_last c.args.problem.now.shape.m c.args.out.now c.fill-word.new.x _ c.args.s c.requires.room c.fill-word.ensures
+    join_last c.args.problem.now.shape.m c.args.out.now c.fill_word.new.x _ c.args.s c.requires.room c.fill_word.ensures
     (length_word g.F.Field.ops (given c.args.problem.now) c.args.s c.args.u.now)

@@ -12,13 +12,13 @@ returns g c =
     let o = g.F.Field.ops in
     let s = c.args.shape in
     let x = c.args.x.now in
-    let front = c.copy-from-slice.new.self in
-    let copied = c.copy-from-slice.ensures.after in
+    let front = c.copy_from_slice.new.self in
+    let copied = c.copy_from_slice.ensures.after in
     let few = free_few o s c.requires.sound in
     let long : length front ≡ s.k = ap length copied ∙ length-take-le s.k x (omega arith) in
     record {
-      tells = sym (eq-eqb (weight_of o x) s.w (sym c.weight-of.ensures ∙ c.if-weight-of-shape.false));
+      tells = sym (eq-eqb (weight_of o x) s.w (sym c.weight_of.ensures ∙ c.if-weight_of-shape.false));
       unknowns = λ _.
-          two-parts front (drop s.k c.args.u.now) c.fill-roots.new.coefficients s.k long
-          ∙ ap₂ (λ (a b : List g.row.F.Denot). a ++ b) copied c.fill-roots.ensures;
+          two-parts front (drop s.k c.args.u.now) c.fill_roots.new.coefficients s.k long
+          ∙ ap₂ (λ (a b : List g.row.F.Denot). a ++ b) copied c.fill_roots.ensures;
     }
