@@ -9,5 +9,5 @@ unfolding shake_block
 returns c =
     let self = c.args.self.now in
     let fed = c.update-3.ensures 0x09 _ (c.update-2.ensures 0x09 _ (c.update.ensures 0x09 [] c.new-hasher.ensures)) in
-    (c.squeeze.ensures.later _ 0 (c.into-stream.ensures 0x09 _ fed)).0
-    ∙ ap (λ (b : List ℕ). stream_of 0x09 (self.salt ++ self.seed ++ b) 0 16) (c.to-be-bytes.ensures ∙ sym (big_eight c.args.number))
+    (c.squeeze.ensures.later _ 0 (c.into_stream.ensures 0x09 _ fed)).0
+    ∙ ap (λ (b : List ℕ). stream_of 0x09 (self.salt ++ self.seed ++ b) 0 16) (c.to_be_bytes.ensures ∙ sym (big_eight c.args.number))
