@@ -51,7 +51,7 @@ invariant_of-self-2 g c =
     (c.sample-y.ensures ∙ ap sampled c.sixteen-2.ensures) in
     let used : 1 ≤ self.at + c.sample-y.result.1 - 16 = omega (arith, over g c) in
     let place : self.at + c.sample-y.result.1 - 16 ≤ 16 = omega arith in
-    (used, (place, (length-put 0 16 both c.copy_from_slice-2.new.self (omega arith) (ap length same ∙ long) ∙ full, tt)))
+    record { used = used; place = place; full = length-put 0 16 both c.copy_from_slice-2.new.self (omega arith) (ap length same ∙ long) ∙ full }
 
 pub returns : goal.returns
 unfolding Sampling
