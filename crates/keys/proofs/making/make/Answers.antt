@@ -12,18 +12,18 @@ returns g c =
     let sampled = g.F.Field.sampled in
     let block = g.E.Expander.block in
     let p = c.args.profile.now in
-    let seed = c.args.matrix-seed.now in
+    let seed = c.args.matrix_seed.now in
     let x = c.args.x.now in
     let was = c.args.out.now in
-    let now = c.write-key-result.new.out in
-    let r = c.write-key-result.result in
-    let is = c.codes-in-use-codes.ensures.value in
+    let now = c.write_key-result.new.out in
+    let r = c.write_key-result.result in
+    let is = c.codes_in_use-codes.ensures.value in
     let told =
     subst (λ (k : Codes). Tells (make_rows sampled block o l k p seed x (length was)) (λ s. Writes sampled block o l p seed (map o.element x) was now s) r) is
-    c.write-key-result.ensures.answers in
+    c.write_key-result.ensures.answers in
     record {
       answers = told;
-      same = c.write-key-result.ensures.same;
-      reads = reads_back sampled block g.met.F.Field.laws l g.met.L.Lock.makes _ (subst SmallCodes is c.codes-in-use-codes.ensures.small) p seed x was now r told;
+      same = c.write_key-result.ensures.same;
+      reads = reads_back sampled block g.met.F.Field.laws l g.met.L.Lock.makes _ (subst SmallCodes is c.codes_in_use-codes.ensures.small) p seed x was now r told;
       clean = c.wipe.ensures;
     }

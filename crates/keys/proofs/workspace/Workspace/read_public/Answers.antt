@@ -13,8 +13,8 @@ returns g c =
     let bs = c.args.bytes.now in
     let k = public_value o bs in
     let w = c.args.self.now in
-    let room = c.read-public.new.y in
-    let long : length room ≡ w.target.len = c.read-public.auto.y ∙ c.as-mut-slice.ensures.len in
+    let room = c.read_public.new.y in
+    let long : length room ≡ w.target.len = c.read_public.auto.y ∙ c.as_mut_slice.ensures.len in
     let back = with_items_is w.target room long in
-    tells_weaker _ (λ h. Holds l k h room) _ c.read-public.result (λ h held. subst (Holds l k h) (sym back) held)
-    (subst (λ (q : Codes). Tells (public_rows o l q bs) (λ h. Holds l k h room) c.read-public.result) c.codes-in-use.ensures.value c.read-public.ensures)
+    tells_weaker _ (λ h. Holds l k h room) _ c.read_public.result (λ h held. subst (Holds l k h) (sym back) held)
+    (subst (λ (q : Codes). Tells (public_rows o l q bs) (λ h. Holds l k h room) c.read_public.result) c.codes_in_use.ensures.value c.read_public.ensures)
