@@ -2,6 +2,8 @@
 use Rattle.std.specs.Prelude.{◌≡◌, ℕ, List, Ok, Err, Result}
 use Rattle.refusal.specs.declared.Refusal.{Refusal}
 use Rattle.algebra.specs.Fields.{Ops}
+use Rattle.algebra.specs.declared.elements.Gf256.{Gf256}
+use Rattle.algebra.specs.declared.elements.Mod251.{Mod251}
 use Rattle.algebra.specs.Binary.{binary, first}
 use Rattle.algebra.specs.Prime.{prime, first_below}
 use Rattle.expander.specs.Blocks.{aes_block, shake_block}
@@ -14,7 +16,7 @@ use Rattle.suites.specs.declared.failure.Failure.TheVariants.{Refused, NoMemory}
 
 -- what is said of a field and how it is sampled, of a lock over it, and of an expander
 abbrev pub Said : Type 1
-Said = {F : Type 0} → Ops F → (List ℕ → F × ℕ) → Forms F → (List ℕ → List ℕ → ℕ → List ℕ) → Type 0
+Said = (F : Type 0) → Ops F → (List ℕ → F × ℕ) → Forms F → (List ℕ → List ℕ → ℕ → List ℕ) → Type 0
 
 -- it is said of the expander with this code
 abbrev pub OverExpander : ℕ → ((List ℕ → List ℕ → ℕ → List ℕ) → Type 0) → Type 0
@@ -27,8 +29,8 @@ OverLock o code P = (code ≡ 1 → P (weight o)) × (code ≡ 2 → P (regular 
 -- it is said of the field, the lock and the expander that the codes name
 abbrev pub Over : Codes → Said → Type 0
 Over c P =
-    (c.field ≡ 1 → OverLock binary c.lock (λ l. OverExpander c.expander (P binary first l)))
-    × (c.field ≡ 2 → OverLock prime c.lock (λ l. OverExpander c.expander (P prime first_below l)))
+    (c.field ≡ 1 → OverLock binary c.lock (λ l. OverExpander c.expander (P Gf256 binary first l)))
+    × (c.field ≡ 2 → OverLock prime c.lock (λ l. OverExpander c.expander (P Mod251 prime first_below l)))
 
 -- what a call answers whose own answer would be r, but for want of memory
 abbrev pub But : {T : Type 0} → (Result T Refusal → Type 0) → Result T Failure → Type 0
