@@ -1,5 +1,5 @@
 -- What a field has because a product is zero only if a factor is. Assumes nothing.
-use Rattle.std.proofs.Common.{◌≡◌, ℕ, Bool, true, false, ◌⊎◌, List, [], ◌∷◌, sym, refl, ap, ◌∙◌, inl, inr, arith}
+use Rattle.std.proofs.Common.{◌≡◌, ℕ, ◌⊎◌, [], ◌∷◌, sym, refl, ap, ◌∙◌, inl, inr, arith}
 use Rattle.std.proofs.lemmas.Bool.{cases_eq}
 use Rattle.algebra.specs.Fields.{Ops, Ring, Numbered, Laws, ZeroProduct}
 use Rattle.algebra.specs.Rings.{var, ◌⊕◌, ◌⊗◌, neg}

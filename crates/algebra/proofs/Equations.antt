@@ -1,5 +1,5 @@
 -- Equations that hold in every commutative ring, by `ring laws env e f refl`. Assumes nothing.
-use Rattle.std.proofs.Common.{◌≡◌, ℕ, Bool, true, false, not, T, eqb, leb, List, [], ◌∷◌, get_or, sym, refl, ap, ◌∙◌, subst, ap₂, eqb→eq}
+use Rattle.std.proofs.Common.{◌≡◌, ℕ, Bool, true, false, not, T, eqb, leb, List, [], ◌∷◌, get_or, sym, refl, ap, ◌∙◌, ap₂, eqb→eq}
 use Rattle.algebra.specs.Fields.{Ops, Ring}
 use Rattle.algebra.specs.Rings.{Expr, var, O, I, ◌⊕◌, ◌⊗◌, neg, ev, Term, and, eq_m, le_m, put_v, ins_v, mul_m, same_sign, put, ins_t, add_p, mul_t, scale_p, mul_p, neg_p, norm, RingEquations}
 

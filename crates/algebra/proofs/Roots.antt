@@ -1,5 +1,5 @@
 -- The roots of a polynomial. Assumes nothing.
-use Rattle.std.proofs.Common.{◌≡◌, ℕ, zero, suc, ◌+◌, ◌≤◌, List, [], ◌∷◌, length, sym, refl, ap, ◌∙◌, ap₂, arith}
+use Rattle.std.proofs.Common.{◌≡◌, ℕ, zero, suc, ◌≤◌, List, [], ◌∷◌, length, sym, refl, ap, ◌∙◌, ap₂, arith}
 use Rattle.std.specs.List.{AllByRecursion as All}
 use Rattle.theory.specs.Distinct.{Distinct}
 use Rattle.algebra.specs.Fields.{Ops, Ring, ZeroProduct}

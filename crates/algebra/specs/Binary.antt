@@ -1,5 +1,5 @@
 -- The field of 256 elements. Assumes nothing.
-use Rattle.std.specs.Prelude.{ℕ, ◌%◌, ◌<◌, List, bit_xor, slice_index}
+use Rattle.std.specs.Prelude.{ℕ, ◌%◌, List, bit_xor, slice_index}
 use Rattle.std.proofs.Common.{mod-lt, lit<}
 use Rattle.algebra.specs.Fields.{Ops}
 use Rattle.algebra.specs.Gf256 as bytes

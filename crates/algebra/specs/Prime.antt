@@ -1,5 +1,5 @@
 -- The integers modulo 251. Assumes nothing.
-use Rattle.std.specs.Prelude.{ℕ, suc, ◌+◌, ◌-◌, ◌*◌, ◌%◌, ◌^◌, ◌<◌, Bool, true, false, List, [], ◌∷◌, nat_lt}
+use Rattle.std.specs.Prelude.{ℕ, suc, ◌+◌, ◌-◌, ◌*◌, ◌%◌, ◌^◌, Bool, true, false, List, [], ◌∷◌, nat_lt}
 use Rattle.std.proofs.Common.{mod-lt, lit<}
 use Rattle.algebra.specs.Fields.{Ops}
 use Rattle.algebra.specs.declared.elements.Mod251.{Mod251}

@@ -1,8 +1,8 @@
 -- Products of bytes as polynomials over {0, 1}: bilinear over exclusive or, so commutative and associative. Assumes nothing.
-use Rattle.std.specs.Prelude.{◌≡◌, ℕ, zero, suc, ◌+◌, ◌*◌, ◌/◌, ◌%◌, ◌<◌, ◌⊎◌, ◌≢◌, bit_xor, refl}
-use Rattle.std.proofs.Common.{sym, ap, ap₂, subst, ◌∙◌, inl, inr, mod-lt, zero-mul, one-mul, add-zero, arith, lit<}
+use Rattle.std.specs.Prelude.{◌≡◌, ℕ, zero, suc, ◌*◌, ◌/◌, ◌%◌, ◌<◌, ◌≢◌, bit_xor, refl}
+use Rattle.std.proofs.Common.{sym, ap, ap₂, ◌∙◌, mod-lt, zero-mul, one-mul, add-zero, arith, lit<}
 use Rattle.std.proofs.lemmas.Nat.{xor_lt, xor_comm, xor_block, xor_shr, xor_mod}
-use Rattle.std.specs.Int.Bits.{xor_assoc, xor_zero_r}
+use Rattle.std.specs.Int.Bits.{xor_assoc}
 use Rattle.theory.proofs.Sweeps.{sweep}
 use Rattle.algebra.specs.Gf256.{double, product_of, times, squares, inverse}
 

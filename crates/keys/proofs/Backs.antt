@@ -1,30 +1,30 @@
 -- A key that was made reads back, and its secret solves its lock. Assumes nothing.
-use Rattle.std.proofs.Common.{◌≡◌, ℕ, ◌+◌, ◌-◌, ◌*◌, ◌^◌, ◌<◌, ◌≤◌, Bool, true, ◌&&◌, eqb, leb, List, [], ◌++◌, map, length, take, drop, replicate, IfOk, None, Ok, Err, Option, Result, sym, refl, ap, ◌∙◌, subst, ap₂, mul-le-mul, arith, pow_mono}
+use Rattle.std.proofs.Common.{◌≡◌, ℕ, ◌+◌, ◌*◌, ◌^◌, ◌<◌, ◌≤◌, true, ◌&&◌, eqb, leb, List, [], ◌++◌, map, length, take, drop, replicate, IfOk, None, Ok, Err, Result, sym, ap, ◌∙◌, subst, ap₂, mul-le-mul, arith, pow_mono}
 use Rattle.std.proofs.lemmas.List.{take_at, drop_at, append_assoc, length-map}
 use Rattle.std.proofs.lemmas.Bool.{and_parts, eqb-true}
 use Rattle.refusal.specs.declared.Refusal.{Refusal}
 use Rattle.refusal.specs.declared.Refusal.TheVariants.{Code, Element, ArgumentLength, OutputShort, NoSolution}
 use Rattle.refusal.specs.declared.Refusal.TheVariants as refusals
-use Rattle.refusal.specs.Rows.{row, first, Tells}
+use Rattle.refusal.specs.Rows.{row, Tells}
 use Rattle.refusal.proofs.Rows.{row_none, first_none}
 use Rattle.algebra.specs.Fields.{Ops, Laws}
 use Rattle.expander.specs.Streams.{seed_stream}
 use Rattle.expander.proofs.Draws.{length-drawn}
 use Rattle.lock.specs.declared.profile.Codes.{Codes}
 use Rattle.lock.specs.declared.profile.Profile.{Profile}
-use Rattle.lock.specs.Instances.{Problem, Fits, Satisfies, product}
+use Rattle.lock.specs.Instances.{Fits, Satisfies, product}
 use Rattle.lock.specs.Locks.{Forms, Makes, sound, within}
 use Rattle.lock.specs.Profiles.{same_codes, rounds}
 use Rattle.lock.proofs.Listed.{length-listed, get_or-listed}
 use Rattle.lock.proofs.Ranges.{withins}
-use Rattle.records.specs.Formats.{below, Puts}
+use Rattle.records.specs.Formats.{below}
 use Rattle.records.specs.Publics.{PublicKey, Small, height, public_rows, public_value, public_bytes}
 use Rattle.records.specs.Secrets.{secret_rows, secret_value, secret_bytes}
 use Rattle.records.specs.Trips.{Valid}
 use Rattle.records.proofs.Keys.{public_long, secret_long}
 use Rattle.records.proofs.Trips.{public_trip, secret_trip}
 use Rattle.keys.specs.declared.sizes.KeySizes.{KeySizes}
-use Rattle.keys.specs.Making.{SmallCodes, key_sizes, admit_rows, matrix_of, problem_of, target_of, key_for, make_rows, Writes, ReadsBack}
+use Rattle.keys.specs.Making.{SmallCodes, key_sizes, admit_rows, matrix_of, problem_of, key_for, make_rows, Writes, ReadsBack}
 
 -- a profile within its limits, with codes that fit their bytes
 small_profile : {F : Type 0} (l : Forms F) (c : Codes) (p : Profile) → SmallCodes c → same_codes p.codes c ≡ true → within l p ≡ true → Small p

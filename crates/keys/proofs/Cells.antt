@@ -1,5 +1,5 @@
 -- How large a matrix can be. Assumes nothing.
-use Rattle.std.proofs.Common.{◌≡◌, ℕ, ◌-◌, ◌*◌, ◌<◌, ◌≤◌, true, leb, mul-le-mul_left, arith, leb→le}
+use Rattle.std.proofs.Common.{ℕ, ◌-◌, ◌*◌, ◌<◌, ◌≤◌, leb, mul-le-mul_left, arith, leb→le}
 use Rattle.theory.proofs.Sweeps.{upto_at}
 
 -- k (250 - k) is largest at 125, by a test of each k

@@ -1,10 +1,9 @@
 -- The target y = H x. Assumes nothing.
-use Rattle.std.proofs.Common.{◌≡◌, ℕ, ◌+◌, ◌-◌, ◌*◌, ◌<◌, ◌≤◌, true, List, [], length, take, drop, sym, refl, ap, ◌∙◌, ap₂, arith}
+use Rattle.std.proofs.Common.{◌≡◌, ℕ, ◌+◌, ◌-◌, true, List, [], length, take, drop, sym, ap, ◌∙◌, ap₂, arith}
 use Rattle.std.proofs.lemmas.List.{get_or-take, get_or-drop, length-take-le, length-drop}
 use Rattle.algebra.specs.Fields.{Ops, Ring}
-use Rattle.algebra.specs.Sums.{sum_from}
 use Rattle.lock.specs.declared.profile.Shape.{Shape}
-use Rattle.lock.specs.Instances.{Problem, item, cell, row_sum, listed, product}
+use Rattle.lock.specs.Instances.{Problem, item, row_sum, listed, product}
 use Rattle.lock.specs.Products.{row_times, Added}
 use Rattle.lock.specs.Profiles.{ranged}
 use Rattle.lock.proofs.Listed.{is-listed_all}

@@ -1,5 +1,5 @@
 -- Linear forms along a line, and the product of two of them. Assumes nothing.
-use Rattle.std.proofs.Common.{◌≡◌, ℕ, zero, suc, ◌+◌, ◌-◌, Bool, true, false, cond, ltb, List, [], ◌∷◌, length, sym, refl, ap, ◌∙◌, ap₂, arith}
+use Rattle.std.proofs.Common.{◌≡◌, ℕ, zero, suc, ◌-◌, Bool, true, false, cond, ltb, List, [], ◌∷◌, length, sym, refl, ap, ◌∙◌, ap₂, arith}
 use Rattle.algebra.specs.Fields.{Ops, Ring}
 use Rattle.algebra.specs.Rings.{var, O, I, ◌⊕◌, ◌⊗◌, neg}
 use Rattle.algebra.specs.Sums.{sum_from, combined, minus}

@@ -1,5 +1,5 @@
 -- The turns of the loops that multiply by the matrix. Assumes nothing.
-use Rattle.std.proofs.Common.{◌≡◌, ℕ, zero, suc, ◌+◌, ◌-◌, ◌*◌, ◌<◌, ◌≤◌, List, [], ◌∷◌, ◌++◌, length, get_or, take, drop, set, replicate, sym, refl, ap, ◌∙◌, subst, ap₂, inl, inr, mul-le-mul_right, suc-mul, zero-mul, add-one, arith, get_or-set_other, get_or-set_same}
+use Rattle.std.proofs.Common.{◌≡◌, ℕ, zero, suc, ◌+◌, ◌-◌, ◌*◌, ◌<◌, ◌≤◌, List, [], ◌∷◌, ◌++◌, length, get_or, take, drop, set, replicate, sym, refl, ap, ◌∙◌, ap₂, inl, inr, mul-le-mul_right, suc-mul, zero-mul, add-one, arith, get_or-set_other, get_or-set_same}
 use borrow.Rule.Slice.PartMut.{put_mid}
 use Rattle.std.proofs.lemmas.List.{get_or-take, get_or-drop, get_or_read, get_or_append_left, get_or-append_right, drop-drop, drop_all, drop_at, take_at, append-nil, length-append, length-drop, length-take-le}
 use Rattle.std.proofs.lemmas.Bool.{cases_eq, cases_lt}
@@ -7,7 +7,7 @@ use Rattle.algebra.specs.Fields.{Ops, Ring}
 use Rattle.algebra.specs.Rings.{var, O, ◌⊕◌, ◌⊗◌}
 use Rattle.algebra.specs.Sums.{combined, minus}
 use Rattle.algebra.proofs.Equations.{ring, zero-plus}
-use Rattle.algebra.proofs.Scaled.{length-combined, get_or-combined}
+use Rattle.algebra.proofs.Scaled.{get_or-combined}
 use Rattle.lock.specs.Instances.{Problem, item, row_sum, entry, word}
 use Rattle.lock.specs.Products.{row_times, Added, BoundPart}
 use Rattle.lock.proofs.Places.{sum_more}

@@ -1,9 +1,9 @@
 -- What the limits of a profile say of its numbers. Assumes nothing.
-use Rattle.std.proofs.Common.{◌≡◌, ℕ, ◌*◌, ◌^◌, ◌<◌, ◌≤◌, Bool, true, ◌&&◌, ltb, leb}
+use Rattle.std.proofs.Common.{◌≡◌, ◌*◌, ◌<◌, ◌≤◌, true, ltb, leb}
 use Rattle.std.proofs.lemmas.Bool.{and_parts, leb-true, ltb-true}
 use Rattle.lock.specs.declared.profile.Shape.{Shape}
 use Rattle.lock.specs.declared.profile.Profile.{Profile}
-use Rattle.lock.specs.Profiles.{ranged, repeated, rounds}
+use Rattle.lock.specs.Profiles.{ranged, rounds}
 use Rattle.lock.specs.Locks.{Forms, sound, within}
 
 pub record InRange (s : Shape) : Type 0 where

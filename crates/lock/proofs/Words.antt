@@ -6,7 +6,7 @@ use Rattle.algebra.specs.Fields.{Ops, Ring}
 use Rattle.algebra.specs.Rings.{var, I, ◌⊕◌, ◌⊗◌, neg}
 use Rattle.algebra.specs.Sums.{sum_from, minus}
 use Rattle.algebra.proofs.Equations.{ring, one-times, zero-times}
-use Rattle.lock.specs.Instances.{Problem, Fits, item, cell, row_sum, entry, listed, word, coordinate, wide, product, Satisfies}
+use Rattle.lock.specs.Instances.{Problem, item, cell, row_sum, entry, word, coordinate, wide, product, Satisfies}
 use Rattle.lock.specs.Theorems.{WordsSatisfy}
 use Rattle.lock.proofs.Listed.{length-listed, get_or-listed, is-listed_all}
 use Rattle.lock.proofs.Places.{sum_split, sum_same, sum_single}

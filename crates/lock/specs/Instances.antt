@@ -1,5 +1,5 @@
 -- What a lock is asked about, and the word x = (x_A | y s - H' x_A) that unknowns stand for at a level s. Assumes nothing.
-use Rattle.std.specs.Prelude.{◌≡◌, ℕ, zero, suc, ◌+◌, ◌-◌, ◌*◌, ◌<◌, ◌≤◌, Bool, true, false, cond, List, [], ◌∷◌, length, ◌==◌, nat_lt, slice_index_or}
+use Rattle.std.specs.Prelude.{◌≡◌, ℕ, zero, suc, ◌+◌, ◌-◌, ◌*◌, ◌<◌, cond, List, [], ◌∷◌, length, ◌==◌, nat_lt, slice_index_or}
 use Rattle.algebra.specs.Fields.{Ops}
 use Rattle.algebra.specs.Sums.{sum_from, minus}
 use Rattle.lock.specs.declared.profile.Shape.{Shape}

@@ -1,5 +1,5 @@
 -- What holds of every word. Assumes nothing.
-use Rattle.std.specs.Prelude.{◌≡◌, ◌≤◌, List, length}
+use Rattle.std.specs.Prelude.{◌≤◌, List}
 use Rattle.algebra.specs.Fields.{Ops}
 use Rattle.lock.specs.Instances.{Problem, word, Satisfies}
 

@@ -1,8 +1,8 @@
 -- Loops that read or write one element a turn. Assumes nothing.
-use Rattle.std.proofs.Common.{◌≡◌, ℕ, suc, ◌+◌, ◌<◌, ◌≤◌, Bool, true, false, ◌&&◌, ltb, List, [], ◌∷◌, ◌++◌, map, length, get_or, take, drop, set, sym, refl, ap, ◌∙◌, ap₂, arith}
+use Rattle.std.proofs.Common.{◌≡◌, ℕ, ◌+◌, ◌<◌, ◌≤◌, Bool, false, ◌&&◌, List, [], ◌∷◌, ◌++◌, map, length, get_or, take, drop, set, sym, refl, ap, ◌∙◌, ap₂, arith}
 use lib.Seq.{paste}
-use Rattle.std.proofs.lemmas.List.Edits.{paste_more, paste_all, paste_none, paste-paste}
-use Rattle.std.proofs.lemmas.List.{at_drop_more, drop_more, drop_all, take_all, map_more, set_at, append_assoc, append-nil, length-append, length-map, length-take-le, get_or-map, get_or_read}
+use Rattle.std.proofs.lemmas.List.Edits.{paste_more, paste_all, paste-paste}
+use Rattle.std.proofs.lemmas.List.{at_drop_more, drop_more, drop_all, take_all, map_more, set_at, append_assoc, append-nil, length-append, length-map, length-take-le, get_or-map}
 use Rattle.std.proofs.lemmas.Bool.{lt-ltb, le-ltb}
 use Rattle.algebra.specs.Fields.{Ops, Laws}
 use Rattle.records.specs.Formats.{below, written, Puts}

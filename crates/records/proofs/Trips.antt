@@ -1,12 +1,12 @@
 -- The records of keys are read as they were written, and written as they were read. Assumes nothing.
-use Rattle.std.proofs.Common.{◌≡◌, ℕ, zero, suc, ◌+◌, ◌-◌, ◌*◌, ◌/◌, ◌%◌, ◌<◌, ◌≤◌, Bool, true, ◌&&◌, eqb, leb, List, [], ◌∷◌, ◌++◌, map, length, get_or, take, drop, None, Option, sym, refl, ap, ◌∙◌, subst, ap₂, arith, drop-cons}
+use Rattle.std.proofs.Common.{◌≡◌, ℕ, zero, suc, ◌+◌, ◌*◌, ◌/◌, ◌%◌, ◌<◌, ◌≤◌, true, ◌&&◌, eqb, leb, List, [], ◌∷◌, ◌++◌, map, length, get_or, drop, None, sym, refl, ap, ◌∙◌, subst, ap₂, arith, drop-cons}
 use Rattle.std.specs.List.{AllByRecursion as All}
 use Rattle.std.proofs.lemmas.List.{drop_all, length-drop, length-map}
 use Rattle.std.proofs.lemmas.Bool.{and_parts, and_from, leb-true, eqb-true, le-leb, eq-eqb}
 use Rattle.std.proofs.ByRecursion.{All-get_or, All-drop}
 use Rattle.refusal.specs.declared.Refusal.TheVariants.{Code, BodyLength}
 use Rattle.refusal.specs.declared.Refusal.TheVariants as refusals
-use Rattle.refusal.specs.Rows.{row, first}
+use Rattle.refusal.specs.Rows.{row}
 use Rattle.refusal.proofs.Rows.{row_none, first_none, goes_on, first_goes}
 use Rattle.algebra.specs.Fields.{Ops, Numbered}
 use Rattle.lock.specs.declared.profile.Codes.{Codes}
@@ -14,10 +14,10 @@ use Rattle.lock.specs.declared.profile.Profile.{Profile}
 use Rattle.lock.specs.Locks.{Forms, within}
 use Rattle.lock.specs.Profiles.{same_codes}
 use Rattle.lock.proofs.Ranges.{withins}
-use Rattle.records.specs.Formats.{Format, Lawful, Byte, raw, elements, after, shaped}
+use Rattle.records.specs.Formats.{Lawful, Byte}
 use Rattle.records.specs.Openings.{two, four, two_at, length_field, record_of, opening_rows}
 use Rattle.records.specs.Publics.{profile_bytes, profile_value, profile_format, Small, PublicKey, height, profile_rows, profile_of, body_format, public_value, public_bytes, public_rows}
-use Rattle.records.specs.Secrets.{secret_value, secret_bytes, secret_rows}
+use Rattle.records.specs.Secrets.{secret_value}
 use Rattle.records.specs.Trips.{Valid, PublicTrip, SecretTrip}
 use Rattle.records.proofs.Layouts.{raw_lawful, elements_lawful, after_lawful, shaped_lawful}
 

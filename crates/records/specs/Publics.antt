@@ -1,6 +1,5 @@
 -- The public record: the values in it, its layout, and when it is refused. Assumes nothing.
-use Rattle.std.specs.Prelude.{◌≡◌, ℕ, ◌+◌, ◌-◌, ◌<◌, Bool, true, List, ◌∷◌, ◌++◌, length, take, drop, None, Option, ◌==◌, slice_index}
-use Rattle.std.specs.List.{AllByRecursion as All}
+use Rattle.std.specs.Prelude.{◌≡◌, ℕ, ◌+◌, ◌-◌, ◌<◌, true, List, ◌∷◌, ◌++◌, length, take, drop, None, Option, ◌==◌, slice_index}
 use Rattle.refusal.specs.declared.Refusal.{Refusal}
 use Rattle.refusal.specs.declared.Refusal.TheVariants.{Code, BodyLength, Element}
 use Rattle.refusal.specs.declared.Refusal.TheVariants as refusals
@@ -11,7 +10,7 @@ use Rattle.lock.specs.declared.profile.Profile.{Profile}
 use Rattle.lock.specs.Profiles.{same_codes}
 use Rattle.lock.specs.Locks.{Forms, within}
 use Rattle.records.specs.declared.head.PublicHead.{PublicHead}
-use Rattle.records.specs.Formats.{Format, Byte, raw, elements, after, shaped}
+use Rattle.records.specs.Formats.{Format, raw, elements, after, shaped}
 use Rattle.records.specs.Openings.{two, two_at, record_of, opening_rows}
 
 -- the codes, m, k, w, a, b, ρ and T

@@ -1,5 +1,5 @@
 -- The secret record: the unknowns u. Assumes nothing.
-use Rattle.std.specs.Prelude.{ℕ, List, map, length, drop, None, Option, ◌==◌}
+use Rattle.std.specs.Prelude.{ℕ, List, length, drop, None, Option, ◌==◌}
 use Rattle.refusal.specs.declared.Refusal.{Refusal}
 use Rattle.refusal.specs.declared.Refusal.TheVariants.{BodyLength, Element}
 use Rattle.refusal.specs.Rows.{row, first}

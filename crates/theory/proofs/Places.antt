@@ -1,8 +1,8 @@
 -- Loops over places: one that fills, and one that carries a value. Assumes nothing.
-use Rattle.std.proofs.Common.{◌≡◌, ℕ, suc, ◌+◌, ◌<◌, ◌≤◌, ◌⊎◌, List, [], ◌∷◌, length, get_or, drop, set, sym, ap, ◌∙◌, subst, inl, inr, add-one, arith, length-set, drop_of_length-le, drop-cons}
+use Rattle.std.proofs.Common.{◌≡◌, ℕ, suc, ◌+◌, ◌<◌, ◌≤◌, List, length, get_or, drop, set, sym, ap, ◌∙◌, inl, inr, add-one, arith, length-set, drop_of_length-le, drop-cons}
 use Rattle.std.proofs.lemmas.List.{get_or-set_same, get_or-set_other}
 use Rattle.std.proofs.lemmas.Bool.{cases_eq}
-use Rattle.theory.specs.Loops.{Filled, accumulated}
+use Rattle.theory.specs.Loops.{accumulated}
 use Rattle.theory.specs.Statements.{FillsOneMore, AccumulatesOneMore}
 
 pub fill_more : {X : Type 0} → FillsOneMore X

@@ -1,6 +1,6 @@
 -- A fact of each number below a bound, from one test that antt computes. Assumes nothing.
 use Rattle.std.proofs.Common.{◌≡◌, ℕ, zero, suc, ◌<◌, Bool, true, false, T, eqb, ◌⊎◌, sym, subst, inl, inr, not-suc-le-zero, eq-or-lt_of_le, arith, eqb→eq}
-use Rattle.theory.specs.Sweep.{both, upto, agree}
+use Rattle.theory.specs.Sweep.{both, upto}
 use Rattle.theory.specs.Statements.{RuleAtEachEntry}
 
 both_left : (a b : Bool) → T (both a b) → T a

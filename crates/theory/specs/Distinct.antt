@@ -1,5 +1,5 @@
 -- Lists whose members are pairwise different. Assumes nothing.
-use Rattle.std.specs.Prelude.{◌≡◌, List, [], ◌∷◌, ◌≢◌}
+use Rattle.std.specs.Prelude.{List, [], ◌∷◌, ◌≢◌}
 use Rattle.std.specs.List.{AllByRecursion as All}
 
 -- no member stands in the list twice

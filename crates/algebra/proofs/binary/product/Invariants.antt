@@ -1,6 +1,6 @@
 use Rattle.std.proofs.Common.{◌≡◌, ◌-◌, ◌<◌}
 use lib.Bits.{bit_xor}
-use Rattle.algebra.specs.Gf256.{product_of, times}
+use Rattle.algebra.specs.Gf256.{product_of}
 use Rattle.algebra.proofs.binary.product.Given as goal
 
 -- what is summed, and the product of the bits that are left

@@ -1,4 +1,4 @@
-use Rattle.std.proofs.Common.{◌≡◌, arith}
+use Rattle.std.proofs.Common.{arith}
 use Rattle.algebra.proofs.Scaled.{cleared_more, cleared_all}
 use Rattle.algebra.proofs.sums.clear.Goals as goal
 

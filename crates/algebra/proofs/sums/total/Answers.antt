@@ -1,4 +1,4 @@
-use Rattle.std.proofs.Common.{◌≡◌, sym, ap, ◌∙◌, arith}
+use Rattle.std.proofs.Common.{sym, ap, ◌∙◌, arith}
 use Rattle.algebra.specs.Sums.{total}
 use Rattle.algebra.proofs.Equations.{zero-plus}
 use Rattle.algebra.proofs.Linear.{total_more, total_all}

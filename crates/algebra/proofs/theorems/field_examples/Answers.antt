@@ -1,5 +1,4 @@
-use Rattle.std.proofs.Common.{refl, ap}
-use Rattle.algebra.specs.Binary.{at}
+use Rattle.std.proofs.Common.{refl}
 use Rattle.algebra.specs.Gf256.{double, product_of, times}
 use Rattle.algebra.proofs.theorems.field_examples.Goals as goal
 

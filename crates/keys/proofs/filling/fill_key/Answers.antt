@@ -1,4 +1,4 @@
-use Rattle.std.proofs.Common.{◌≡◌, ℕ, ◌-◌, ◌*◌, List, [], sym, ap, ◌∙◌, ap₂}
+use Rattle.std.proofs.Common.{◌-◌, List, [], sym, ap, ◌∙◌, ap₂}
 use Rattle.expander.specs.Streams.{drawn, seed_stream}
 use Rattle.lock.specs.Instances.{listed, product}
 use Rattle.keys.specs.Making.{matrix_of}

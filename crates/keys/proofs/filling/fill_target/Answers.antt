@@ -1,4 +1,4 @@
-use Rattle.std.proofs.Common.{◌≡◌, length, ap, ◌∙◌, arith}
+use Rattle.std.proofs.Common.{◌∙◌}
 use Rattle.keys.proofs.Targets.{target_is}
 use Rattle.keys.proofs.filling.fill_target.Goals as goal
 

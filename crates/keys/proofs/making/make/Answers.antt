@@ -1,4 +1,4 @@
-use Rattle.std.proofs.Common.{◌≡◌, map, length, subst}
+use Rattle.std.proofs.Common.{map, length, subst}
 use Rattle.refusal.specs.Rows.{Tells}
 use Rattle.lock.specs.declared.profile.Codes.{Codes}
 use Rattle.keys.specs.Making.{SmallCodes, make_rows, Writes}

@@ -1,4 +1,4 @@
-use Rattle.std.proofs.Common.{◌≡◌, ℕ, ◌+◌, ◌≤◌, length, sym, ap, ◌∙◌, arith}
+use Rattle.std.proofs.Common.{◌≡◌, ℕ, ◌+◌, length, sym, ap, ◌∙◌, arith}
 use Rattle.records.specs.Publics.{key_of, public_bytes}
 use Rattle.records.proofs.Keys.{public_long}
 use Rattle.records.proofs.Loops.{joins}

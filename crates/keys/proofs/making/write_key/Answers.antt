@@ -1,4 +1,3 @@
-use Rattle.std.proofs.Common.{◌≡◌, sym, ap, ◌∙◌, ap₂, arith, rules}
 use Rattle.std.proofs.lemmas.Bool.{and_parts}
 use Rattle.lock.specs.Locks.{sound}
 use Rattle.keys.proofs.making.write_key.Goals as goal

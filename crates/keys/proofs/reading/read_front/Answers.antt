@@ -1,4 +1,4 @@
-use Rattle.std.proofs.Common.{◌≡◌, ℕ, ◌-◌, List, length, take, sym, ap, ◌∙◌, subst, arith, rules}
+use Rattle.std.proofs.Common.{◌≡◌, ℕ, ◌-◌, length, take, ◌∙◌, subst, arith, rules}
 use Rattle.std.proofs.lemmas.List.{take_at, length-take-le}
 use Rattle.refusal.specs.Rows.{Tells}
 use Rattle.refusal.proofs.Rows.{tells_weaker}

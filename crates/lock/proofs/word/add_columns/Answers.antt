@@ -1,4 +1,4 @@
-use Rattle.std.proofs.Common.{refl, arith}
+use Rattle.std.proofs.Common.{arith}
 use Rattle.lock.proofs.Products.{column_left, adding_none, adding_more, adding_all}
 use Rattle.lock.proofs.word.add_columns.Goals as goal
 

@@ -1,4 +1,3 @@
-use Rattle.std.proofs.Common.{◌≡◌, ℕ, ◌*◌, ◌<◌, drop}
 use Rattle.lock.proofs.Products.{Adding}
 use Rattle.lock.proofs.word.add_columns.Given as goal
 

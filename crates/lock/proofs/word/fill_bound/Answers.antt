@@ -1,4 +1,4 @@
-use Rattle.std.proofs.Common.{◌≡◌, List, ap, ◌∙◌, arith}
+use Rattle.std.proofs.Common.{List, ap, ◌∙◌, arith}
 use Rattle.lock.specs.Instances.{given, item}
 use Rattle.lock.proofs.Products.{replicate-zero, binding_none, binding_more, binding_all}
 use Rattle.lock.proofs.word.fill_bound.Goals as goal

@@ -1,4 +1,3 @@
-use Rattle.std.proofs.Common.{◌≡◌, ℕ, ◌*◌, ◌<◌}
 use Rattle.lock.specs.Instances.{given as problem-of}
 use Rattle.lock.proofs.Products.{Binding}
 use Rattle.lock.proofs.word.fill_bound.Given as goal

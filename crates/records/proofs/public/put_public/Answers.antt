@@ -1,4 +1,4 @@
-use Rattle.std.proofs.Common.{◌≡◌, ℕ, ◌+◌, ◌≤◌, List, [], ◌∷◌, ◌++◌, map, length, sym, refl, ap, ◌∙◌, arith}
+use Rattle.std.proofs.Common.{◌+◌, ◌≤◌, length, refl, ap, arith}
 use Rattle.records.specs.Publics.{key_of}
 use Rattle.records.proofs.Keys.{public-parts}
 use Rattle.records.proofs.Loops.{joins, puts_same}

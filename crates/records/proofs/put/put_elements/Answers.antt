@@ -1,4 +1,4 @@
-use Rattle.std.proofs.Common.{◌≡◌, map, refl, ◌∙◌, arith}
+use Rattle.std.proofs.Common.{map, refl, arith}
 use Rattle.std.proofs.lemmas.List.Edits.{paste_none}
 use Rattle.records.proofs.Loops.{small-number, put_more, put_all}
 use Rattle.records.proofs.put.put_elements.Goals as goal

@@ -1,4 +1,4 @@
-use Rattle.std.proofs.Common.{◌≡◌, ℕ, ◌+◌, ◌≤◌, List, [], ◌∷◌, ◌++◌, map, length, sym, refl, ap, ◌∙◌, arith}
+use Rattle.std.proofs.Common.{◌+◌, ◌≤◌, length, refl, ap, arith}
 use Rattle.records.proofs.Keys.{secret-parts}
 use Rattle.records.proofs.Loops.{joins, puts_same}
 use Rattle.records.proofs.secret.put_secret.Goals as goal

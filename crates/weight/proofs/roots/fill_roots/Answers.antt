@@ -1,4 +1,4 @@
-use Rattle.std.proofs.Common.{◌≡◌, ◌+◌, ◌<◌, length, sym, arith}
+use Rattle.std.proofs.Common.{◌+◌, ◌<◌, length, sym, arith}
 use Rattle.std.proofs.lemmas.List.{length-take-le}
 use Rattle.weight.proofs.Growing.{grow_none, grow_room, grow_yes, grow_no, grow_all}
 use Rattle.weight.proofs.roots.fill_roots.Given as given

@@ -1,4 +1,4 @@
-use Rattle.std.proofs.Common.{◌≡◌, ◌-◌, length, set, ap, arith}
+use Rattle.std.proofs.Common.{◌-◌, length, set, ap, arith}
 use Rattle.weight.specs.Roots.{stepped}
 use Rattle.weight.proofs.Growing.{step_more, step_all}
 use Rattle.weight.proofs.roots.times_root.Goals as goal

@@ -1,4 +1,4 @@
-use Rattle.std.proofs.Common.{◌≡◌, ℕ, zero, suc, ◌<◌, List, [], ◌∷◌, refl, ap, arith, lit<}
+use Rattle.std.proofs.Common.{◌≡◌, ℕ, zero, suc, [], ◌∷◌, refl, ap, arith, lit<}
 use Rattle.algebra.specs.Prime.{at, prime}
 use Rattle.algebra.specs.declared.elements.Mod251.{Mod251}
 use Rattle.algebra.specs.Primes.{same}

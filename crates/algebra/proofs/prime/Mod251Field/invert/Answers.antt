@@ -1,4 +1,4 @@
-use Rattle.std.proofs.Common.{◌≡◌, ℕ, ◌*◌, ◌%◌, ◌^◌, sym, refl, ap, ◌∙◌, mod-lt, pow-suc, add-one, arith, lit<}
+use Rattle.std.proofs.Common.{◌≡◌, ℕ, ◌*◌, ◌%◌, ◌^◌, sym, ap, ◌∙◌, mod-lt, pow-suc, add-one, arith, lit<}
 use native.Mathlib.Nat.{pow-zero}
 use Rattle.algebra.specs.Primes.{same, mod-mul}
 use Rattle.algebra.proofs.prime.Mod251Field.invert.Goals as goal

@@ -2,7 +2,6 @@ use Rattle.std.proofs.Common.{◌≡◌, ℕ, length, take, sym, ap, ◌∙◌, 
 use Rattle.std.proofs.lemmas.List.{with_items_is}
 use Rattle.refusal.proofs.Rows.{first_goes}
 use Rattle.lock.proofs.Ranges.{withins}
-use Rattle.records.specs.Publics.{PublicKey, Holds, public_value}
 use Rattle.records.specs.Secrets.{secret_rows}
 use Rattle.keys.proofs.Pairs.{same_unknowns}
 use Rattle.keys.proofs.workspace.Workspace.read_pair.Goals as goal

@@ -3,7 +3,6 @@ use Rattle.std.proofs.lemmas.List.{length-take-le}
 use Rattle.std.proofs.lemmas.Bool.{eq-eqb}
 use Rattle.lock.proofs.Products.{two-parts}
 use Rattle.weight.specs.Roots.{weight_of}
-use Rattle.weight.specs.Weight.{weight}
 use Rattle.weight.specs.Weights.{free_few}
 use Rattle.weight.proofs.equations.WeightLock.secret.Goals as goal
 

@@ -1,4 +1,4 @@
-use Rattle.std.proofs.Common.{length, arith}
+use Rattle.std.proofs.Common.{length}
 use Rattle.weight.proofs.Formed.{products_are}
 use Rattle.weight.proofs.equations.WeightLock.values.Goals as goal
 
