@@ -3,7 +3,7 @@ use Rattle.std.proofs.Common.{◌≡◌, ℕ, zero, suc, ◌+◌, ◌*◌, ◌/�
 use native.Mathlib.Nat.{pow-zero}
 use lib.Arith.{digits_lt, digits_div, digits_mod}
 use borrow.Author.Tests.{eqb-false}
-use Rattle.std.specs.List.{AllByRecursion as All}
+use Rattle.std.specs.List.{AllByRecursion}
 use Rattle.theory.specs.Distinct.{Distinct}
 use Rattle.theory.proofs.Pigeons.{counted}
 use Rattle.algebra.specs.Fields.{Ops, Ring, Numbered, ZeroProduct}
@@ -93,7 +93,7 @@ module _ {F : Type 0} {o : Ops F} (laws : Ring o) (domain : ZeroProduct o) (numb
           let front : o.times g c ≡ o.times h c = plus_cancel_right (o.times g c) (o.times h c) (dot_of o hs cs) (ap (λ (xs : List F). o.plus (o.times g c) (dot_of o xs cs)) (sym same) ∙ d) in
           ap₂ (λ (x : F) (xs : List F). x ∷ xs) (cancel laws domain c g h ne front) same
 
-  few : (n : ℕ) (c : List F) (rows : List (List F)) → Live o c → length c ≡ n → Distinct rows → All (λ g. (length g ≡ length c) × (dot_of o g c ≡ o.zero)) rows
+  few : (n : ℕ) (c : List F) (rows : List (List F)) → Live o c → length c ≡ n → Distinct rows → AllByRecursion (λ g. (length g ≡ length c) × (dot_of o g c ≡ o.zero)) rows
       → length rows * o.size ≤ o.size ^ n
   few zero c rows l e d a = absurd (omega (arith, l.1))
   few (suc n) c rows l e d a =

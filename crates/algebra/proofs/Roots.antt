@@ -1,6 +1,6 @@
 -- The roots of a polynomial. Assumes nothing.
 use Rattle.std.proofs.Common.{◌≡◌, ℕ, zero, suc, ◌≤◌, List, [], ◌∷◌, length, sym, refl, ap, ◌∙◌, ap₂, arith}
-use Rattle.std.specs.List.{AllByRecursion as All}
+use Rattle.std.specs.List.{AllByRecursion}
 use Rattle.theory.specs.Distinct.{Distinct}
 use Rattle.algebra.specs.Fields.{Ops, Ring, ZeroProduct}
 use Rattle.algebra.specs.Rings.{var, O, ◌⊕◌, ◌⊗◌, neg}
@@ -31,7 +31,7 @@ module _ {F : Type 0} {o : Ops F} (laws : Ring o) (domain : ZeroProduct o) where
       ((var 2 ⊕ var 0 ⊗ var 3) ⊕ (var 1 ⊕ neg (var 0)) ⊗ (var 3 ⊕ var 1 ⊗ var 4)) refl
 
   -- where the quotient is zero and x is a root, every coefficient is zero
-  all-zero : (x : F) (cs : List F) → eval_of o cs x ≡ o.zero → All (λ q. q ≡ o.zero) (quotient x cs) → All (λ c. c ≡ o.zero) cs
+  all-zero : (x : F) (cs : List F) → eval_of o cs x ≡ o.zero → AllByRecursion (λ q. q ≡ o.zero) (quotient x cs) → AllByRecursion (λ c. c ≡ o.zero) cs
   all-zero x [] e a = tt
   all-zero x (c ∷ []) e a = (ring laws (x ∷ c ∷ []) (var 1) (var 1 ⊕ var 0 ⊗ O) refl ∙ e, tt)
   all-zero x (c ∷ d ∷ cs) e a = (
@@ -41,7 +41,7 @@ module _ {F : Type 0} {o : Ops F} (laws : Ring o) (domain : ZeroProduct o) where
     all-zero x (d ∷ cs) a.0 a.1,
   )
 
-  rest_roots : (x : F) (cs xs : List F) → eval_of o cs x ≡ o.zero → All (λ y. x ≡ y → ⊥) xs → All (λ y. eval_of o cs y ≡ o.zero) xs → All (λ y. eval_of o (quotient x cs) y ≡ o.zero) xs
+  rest_roots : (x : F) (cs xs : List F) → eval_of o cs x ≡ o.zero → AllByRecursion (λ y. x ≡ y → ⊥) xs → AllByRecursion (λ y. eval_of o cs y ≡ o.zero) xs → AllByRecursion (λ y. eval_of o (quotient x cs) y ≡ o.zero) xs
   rest_roots x cs [] e d a = tt
   rest_roots x cs (y ∷ ys) e d a = (
     no_divisors laws domain (o.plus y (o.negate x)) (eval_of o (quotient x cs) y) (λ z. d.0 (sym (minus-zero laws y x z)))
@@ -50,7 +50,7 @@ module _ {F : Type 0} {o : Ops F} (laws : Ring o) (domain : ZeroProduct o) where
     rest_roots x cs ys e d.1 a.1,
   )
 
-  roots : (n : ℕ) (cs xs : List F) → length cs ≡ n → Distinct xs → All (λ x. eval_of o cs x ≡ o.zero) xs → n ≤ length xs → All (λ c. c ≡ o.zero) cs
+  roots : (n : ℕ) (cs xs : List F) → length cs ≡ n → Distinct xs → AllByRecursion (λ x. eval_of o cs x ≡ o.zero) xs → n ≤ length xs → AllByRecursion (λ c. c ≡ o.zero) cs
   roots n [] xs l d a h = tt
   roots zero (c ∷ cs) xs l d a h = absurd (omega arith)
   roots (suc n) (c ∷ cs) [] l d a h = absurd (omega arith)

@@ -1,6 +1,6 @@
 -- What holds over every field. Assumes nothing.
 use Rattle.std.specs.Prelude.{◌≡◌, ℕ, ◌+◌, ◌*◌, ◌^◌, ◌<◌, ◌≤◌, List, ◌++◌, length, ◌≢◌, slice_index_or}
-use Rattle.std.specs.List.{AllByRecursion as All}
+use Rattle.std.specs.List.{AllByRecursion}
 use Rattle.theory.specs.Distinct.{Distinct}
 use Rattle.algebra.specs.Fields.{Ops}
 use Rattle.algebra.specs.Sums.{total, sum_from, dot_of, eval_of, combined}
@@ -16,7 +16,7 @@ module _ {F : Type 0} (o : Ops F) where
 
   -- a polynomial with at least as many different roots as coefficients, that is, more than its degree, is zero
   abbrev pub FewRoots : Type 0
-  FewRoots = (cs xs : List F) → Distinct xs → All (λ x. eval_of o cs x ≡ o.zero) xs → length cs ≤ length xs → All (λ c. c ≡ o.zero) cs
+  FewRoots = (cs xs : List F) → Distinct xs → AllByRecursion (λ x. eval_of o cs x ≡ o.zero) xs → length cs ≤ length xs → AllByRecursion (λ c. c ≡ o.zero) cs
 
   -- some coefficient is not zero
   abbrev pub Live : List F → Type 0
@@ -25,5 +25,5 @@ module _ {F : Type 0} (o : Ops F) where
   -- different lists that all meet one linear condition with a coefficient other than zero: at most one in `size` of all lists
   abbrev pub FewSolutions : Type 0
   FewSolutions = (cs : List F) (lists : List (List F)) → Live cs → Distinct lists
-      → All (λ g. (length g ≡ length cs) × (dot_of o g cs ≡ o.zero)) lists
+      → AllByRecursion (λ g. (length g ≡ length cs) × (dot_of o g cs ≡ o.zero)) lists
       → length lists * o.size ≤ o.size ^ length cs

@@ -1,6 +1,6 @@
 -- The records of keys are read as they were written, and written as they were read. Assumes nothing.
 use Rattle.std.proofs.Common.{◌≡◌, ℕ, zero, suc, ◌+◌, ◌*◌, ◌/◌, ◌%◌, ◌<◌, ◌≤◌, true, ◌&&◌, eqb, leb, List, [], ◌∷◌, ◌++◌, map, length, get_or, drop, None, sym, refl, ap, ◌∙◌, subst, ap₂, arith, drop-cons}
-use Rattle.std.specs.List.{AllByRecursion as All}
+use Rattle.std.specs.List.{AllByRecursion}
 use Rattle.std.proofs.lemmas.List.{drop_all, length-drop, length-map}
 use Rattle.std.proofs.lemmas.Bool.{and_parts, and_from, leb-true, eqb-true, le-leb, eq-eqb}
 use Rattle.std.proofs.ByRecursion.{All-get_or, All-drop}
@@ -56,7 +56,7 @@ profile_back p s =
     ap₂ (λ (m k : ℕ). with_numbers p m k (again p.shape.w) (again p.t)) (two_back p.shape.m s.m) (two_back p.shape.k s.k)
     ∙ ap₂ (λ (w t : ℕ). with_numbers p p.shape.m p.shape.k w t) (two_back p.shape.w s.w) (two_back p.t s.t)
 
-module _ (bs : List ℕ) (l : length bs ≡ 14) (b : All Byte bs) where
+module _ (bs : List ℕ) (l : length bs ≡ 14) (b : AllByRecursion Byte bs) where
   at : (i : ℕ) → i < 14 → get_or bs i 0 < 256
   at i h = All-get_or Byte bs i 0 (omega arith) b
 
@@ -90,7 +90,7 @@ profile_lawful = record {
 }
 
 -- a record is its length, its version and the rest
-head_is : (bs : List ℕ) → 5 ≤ length bs → All Byte bs → get_or bs 4 0 ≡ 1 → four (length_field bs) ++ (1 ∷ drop 5 bs) ≡ bs
+head_is : (bs : List ℕ) → 5 ≤ length bs → AllByRecursion Byte bs → get_or bs 4 0 ≡ 1 → four (length_field bs) ++ (1 ∷ drop 5 bs) ≡ bs
 head_is [] h b v = absurd (omega arith)
 head_is (b0 ∷ []) h b v = absurd (omega arith)
 head_is (b0 ∷ b1 ∷ []) h b v = absurd (omega arith)
@@ -125,7 +125,7 @@ opened least bs h =
     }
 
 -- an opened record is that of its rest
-record_forth : (least : ℕ) (bs rest : List ℕ) → All Byte bs → opening_rows least bs ≡ None → rest ≡ drop 5 bs → record_of rest ≡ bs
+record_forth : (least : ℕ) (bs rest : List ℕ) → AllByRecursion Byte bs → opening_rows least bs ≡ None → rest ≡ drop 5 bs → record_of rest ≡ bs
 record_forth least bs rest b h e =
     let q = opened least bs h in
     let size : 1 + length rest ≡ length_field bs = omega (arith, q.long, q.field, length-drop 5 bs, ap length e) in
@@ -152,7 +152,7 @@ module _ {F : Type 0} (o : Ops F) (laws : Numbered o) where
   body_lawful n =
       shaped_lawful _ _ _ (after_lawful _ _ profile_lawful (after_lawful _ _ (raw_lawful 16) (elements_lawful o laws n))) (λ b. refl) (λ a. refl)
 
-  public_forth : (l : Forms F) (c : Codes) (bs : List ℕ) → All Byte bs → public_rows o l c bs ≡ None → public_bytes o (public_value o bs) ≡ bs
+  public_forth : (l : Forms F) (c : Codes) (bs : List ℕ) → AllByRecursion Byte bs → public_rows o l c bs ≡ None → public_bytes o (public_value o bs) ≡ bs
   public_forth l c bs b h =
       let p = profile_of bs in
       let n = height p in

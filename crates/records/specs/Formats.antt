@@ -1,6 +1,6 @@
 -- Layouts of values in bytes. Assumes nothing.
 use Rattle.std.specs.Prelude.{◌≡◌, ℕ, ◌+◌, ◌<◌, Bool, true, ◌&&◌, List, [], ◌∷◌, ◌++◌, map, length, take, drop, nat_lt}
-use Rattle.std.specs.List.{AllByRecursion as All}
+use Rattle.std.specs.List.{AllByRecursion}
 use Rattle.algebra.specs.Fields.{Ops}
 
 abbrev pub Byte : ℕ → Type 0
@@ -33,8 +33,8 @@ pub record Lawful {A : Type 0} (f : Format A) : Type 0 where
   pub long : (a : A) → f.fits a → length (f.bytes a) ≡ f.size
   pub good_back : (a : A) → f.fits a → f.good (f.bytes a) ≡ true
   pub value_back : (a : A) → f.fits a → f.value (f.bytes a) ≡ a
-  pub fits_forth : (bs : List ℕ) → length bs ≡ f.size → All Byte bs → f.good bs ≡ true → f.fits (f.value bs)
-  pub bytes_forth : (bs : List ℕ) → length bs ≡ f.size → All Byte bs → f.good bs ≡ true → f.bytes (f.value bs) ≡ bs
+  pub fits_forth : (bs : List ℕ) → length bs ≡ f.size → AllByRecursion Byte bs → f.good bs ≡ true → f.fits (f.value bs)
+  pub bytes_forth : (bs : List ℕ) → length bs ≡ f.size → AllByRecursion Byte bs → f.good bs ≡ true → f.bytes (f.value bs) ≡ bs
 
 -- n bytes as they are
 abbrev pub raw : ℕ → Format (List ℕ)

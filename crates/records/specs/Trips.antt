@@ -1,6 +1,6 @@
 -- Reading inverts writing, and writing inverts reading. Assumes nothing.
 use Rattle.std.specs.Prelude.{◌≡◌, ℕ, ◌+◌, ◌<◌, true, List, length, None}
-use Rattle.std.specs.List.{AllByRecursion as All}
+use Rattle.std.specs.List.{AllByRecursion}
 use Rattle.algebra.specs.Fields.{Ops}
 use Rattle.lock.specs.declared.profile.Codes.{Codes}
 use Rattle.lock.specs.Profiles.{same_codes}
@@ -22,10 +22,10 @@ module _ {F : Type 0} (o : Ops F) where
   pub record PublicTrip (l : Forms F) : Type 0 where
     pub taken : (c : Codes) (k : PublicKey F) → Valid l c k → public_rows o l c (public_bytes o k) ≡ None
     pub back : (c : Codes) (k : PublicKey F) → Valid l c k → public_value o (public_bytes o k) ≡ k
-    pub forth : (c : Codes) (bs : List ℕ) → All Byte bs → public_rows o l c bs ≡ None → public_bytes o (public_value o bs) ≡ bs
+    pub forth : (c : Codes) (bs : List ℕ) → AllByRecursion Byte bs → public_rows o l c bs ≡ None → public_bytes o (public_value o bs) ≡ bs
 
   -- the same of the record of unknowns
   pub record SecretTrip : Type 0 where
     pub taken : (u : List F) → length u < 65535 → secret_rows o (length u) (secret_bytes o u) ≡ None
     pub back : (u : List F) → secret_value o (secret_bytes o u) ≡ u
-    pub forth : (n : ℕ) (bs : List ℕ) → All Byte bs → secret_rows o n bs ≡ None → secret_bytes o (secret_value o bs) ≡ bs
+    pub forth : (n : ℕ) (bs : List ℕ) → AllByRecursion Byte bs → secret_rows o n bs ≡ None → secret_bytes o (secret_value o bs) ≡ bs

@@ -1,7 +1,7 @@
 -- The regular lock is linear along lines, and is solved exactly where all its equations are zero. Assumes nothing.
 use Rattle.std.specs.Prelude.{◌≡◌, ℕ, zero, suc, ◌+◌, ◌*◌, ◌<◌, ◌≤◌, List, [], ◌∷◌, ◌++◌, length, ◌≢◌, slice_index_or, refl}
 use Rattle.std.proofs.Common.{sym, ap, subst, ◌∙◌, inl, inr, suc-mul, zero-mul, le_refl, arith}
-use Rattle.std.specs.List.{AllByRecursion as All}
+use Rattle.std.specs.List.{AllByRecursion}
 use Rattle.std.proofs.lemmas.Bool.{cases_eq}
 use Rattle.algebra.specs.Fields.{Ops, Ring, Numbered, ZeroProduct}
 use Rattle.algebra.specs.Rings.{O, I, ◌⊕◌, ◌⊗◌, neg}
@@ -19,24 +19,24 @@ use Rattle.regular.specs.Regular.{Equation, whole, pair, pairs_with, pairs, bloc
 -- ---- what holds of each member of a list
 
 module _ {X : Type 0} (P : X → Type 0) where
-  all_append : (xs ys : List X) → All P xs → All P ys → All P (xs ++ ys)
+  all_append : (xs ys : List X) → AllByRecursion P xs → AllByRecursion P ys → AllByRecursion P (xs ++ ys)
   all_append [] ys a b = b
   all_append (x ∷ xs) ys a b = (a.0, all_append xs ys a.1 b)
 
-  all_front : (xs ys : List X) → All P (xs ++ ys) → All P xs
+  all_front : (xs ys : List X) → AllByRecursion P (xs ++ ys) → AllByRecursion P xs
   all_front [] ys a = tt
   all_front (x ∷ xs) ys a = (a.0, all_front xs ys a.1)
 
-  all_back : (xs ys : List X) → All P (xs ++ ys) → All P ys
+  all_back : (xs ys : List X) → AllByRecursion P (xs ++ ys) → AllByRecursion P ys
   all_back [] ys a = a
   all_back (x ∷ xs) ys a = all_back xs ys a.1
 
-  all_at : (xs : List X) (d : X) → All P xs → (j : ℕ) → j < length xs → P (slice_index_or xs j d)
+  all_at : (xs : List X) (d : X) → AllByRecursion P xs → (j : ℕ) → j < length xs → P (slice_index_or xs j d)
   all_at [] d a j h = absurd (omega arith)
   all_at (x ∷ xs) d a zero h = a.0
   all_at (x ∷ xs) d a (suc j) h = all_at xs d a.1 j (omega arith)
 
-  at_all : (xs : List X) (d : X) → ((j : ℕ) → j < length xs → P (slice_index_or xs j d)) → All P xs
+  at_all : (xs : List X) (d : X) → ((j : ℕ) → j < length xs → P (slice_index_or xs j d)) → AllByRecursion P xs
   at_all [] d f = tt
   at_all (x ∷ xs) d f = (f 0 (omega arith), at_all xs d (λ j h. f (suc j) (omega arith)))
 
@@ -73,7 +73,7 @@ module _ {F : Type 0} {o : Ops F} (laws : Ring o) (numbered : Numbered o) (domai
 
     -- ---- from zeros to one [1]
 
-    partners : (i j n : ℕ) → (x i ≢ o.zero) → All Zero (pairs_with i j n) → (r : ℕ) → j ≤ r → r < j + n → x r ≡ o.zero
+    partners : (i j n : ℕ) → (x i ≢ o.zero) → AllByRecursion Zero (pairs_with i j n) → (r : ℕ) → j ≤ r → r < j + n → x r ≡ o.zero
     partners i j zero ne a r lo hi = absurd (omega arith)
     partners i j (suc n) ne a r lo hi =
         elim (cases_eq j r) [
@@ -81,7 +81,7 @@ module _ {F : Type 0} {o : Ops F} (laws : Ring o) (numbered : Numbered o) (domai
           | inr d ↦ partners i (suc j) n ne a.1 r (omega arith) (omega arith)
         ]
 
-    one-hot : (i n : ℕ) → sum_from o x i n ≡ o.one → All Zero (pairs i n) → OneHot o x i n
+    one-hot : (i n : ℕ) → sum_from o x i n ≡ o.one → AllByRecursion Zero (pairs i n) → OneHot o x i n
     one-hot i zero s a = absurd (one_not_zero numbered (sym s))
     one-hot i (suc n) s a =
         elim (zero_or numbered (x i)) [
@@ -104,7 +104,7 @@ module _ {F : Type 0} {o : Ops F} (laws : Ring o) (numbered : Numbered o) (domai
               (i, omega arith, omega arith, one, λ r b c d. rest r (omega arith) (omega arith))
         ]
 
-    block-hot : (i n : ℕ) → All Zero (block i n) → OneHot o x i n
+    block-hot : (i n : ℕ) → AllByRecursion Zero (block i n) → OneHot o x i n
     block-hot i n a =
         one-hot i n
         (minus-zero laws (sum_from o x i n) o.one (sym (one-times laws (minus o (sum_from o x i n) o.one)) ∙ a.0))
@@ -112,17 +112,17 @@ module _ {F : Type 0} {o : Ops F} (laws : Ring o) (numbered : Numbered o) (domai
 
     -- ---- and back
 
-    pairs_with-zero : (i j n : ℕ) → ((r : ℕ) → j ≤ r → r < j + n → o.times (x i) (x r) ≡ o.zero) → All Zero (pairs_with i j n)
+    pairs_with-zero : (i j n : ℕ) → ((r : ℕ) → j ≤ r → r < j + n → o.times (x i) (x r) ≡ o.zero) → AllByRecursion Zero (pairs_with i j n)
     pairs_with-zero i j zero f = tt
     pairs_with-zero i j (suc n) f = (f j (omega arith) (omega arith), pairs_with-zero i (suc j) n (λ r lo hi. f r (omega arith) (omega arith)))
 
-    pairs-zero : (i n : ℕ) → ((a b : ℕ) → i ≤ a → a < b → b < i + n → o.times (x a) (x b) ≡ o.zero) → All Zero (pairs i n)
+    pairs-zero : (i n : ℕ) → ((a b : ℕ) → i ≤ a → a < b → b < i + n → o.times (x a) (x b) ≡ o.zero) → AllByRecursion Zero (pairs i n)
     pairs-zero i zero f = tt
     pairs-zero i (suc n) f =
         all_append Zero (pairs_with i (suc i) n) (pairs (suc i) n) (pairs_with-zero i (suc i) n (λ r lo hi. f i r (omega arith) (omega arith) (omega arith)))
         (pairs-zero (suc i) n (λ a b h lo hi. f a b (omega arith) lo (omega arith)))
 
-    block-zero : (i n : ℕ) → OneHot o x i n → All Zero (block i n)
+    block-zero : (i n : ℕ) → OneHot o x i n → AllByRecursion Zero (block i n)
     block-zero i n (t, lo, hi, one, others) = (
       ap (λ (s : F). o.times o.one (minus o s o.one)) (sum_single laws x i n t lo hi others ∙ one) ∙ ring laws [] (I ⊗ (I ⊕ neg I)) O refl,
       pairs-zero i n (λ a b ia ab bn.
@@ -134,7 +134,7 @@ module _ {F : Type 0} {o : Ops F} (laws : Ring o) (numbered : Numbered o) (domai
 
     -- ---- all blocks
 
-    blocks-hot : (n i c : ℕ) → All Zero (blocks n i c) → (b : ℕ) → b < c → OneHot o x (i + b * n) n
+    blocks-hot : (n i c : ℕ) → AllByRecursion Zero (blocks n i c) → (b : ℕ) → b < c → OneHot o x (i + b * n) n
     blocks-hot n i zero a b h = absurd (omega arith)
     blocks-hot n i (suc c) a zero h =
         subst (λ (j : ℕ). OneHot o x j n) (omega (arith, zero-mul n)) (block-hot i n (all_front Zero (block i n) (blocks n (i + n) c) a))
@@ -142,7 +142,7 @@ module _ {F : Type 0} {o : Ops F} (laws : Ring o) (numbered : Numbered o) (domai
         subst (λ (j : ℕ). OneHot o x j n) (omega (arith, suc-mul b n))
         (blocks-hot n (i + n) c (all_back Zero (block i n) (blocks n (i + n) c) a) b (omega arith))
 
-    blocks-zero : (n i c : ℕ) → ((b : ℕ) → b < c → OneHot o x (i + b * n) n) → All Zero (blocks n i c)
+    blocks-zero : (n i c : ℕ) → ((b : ℕ) → b < c → OneHot o x (i + b * n) n) → AllByRecursion Zero (blocks n i c)
     blocks-zero n i zero f = tt
     blocks-zero n i (suc c) f =
         all_append Zero (block i n) (blocks n (i + n) c)

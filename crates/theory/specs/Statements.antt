@@ -1,6 +1,6 @@
 -- The theorems that other crates cite. Assumes nothing.
 use Rattle.std.specs.Prelude.{◌≡◌, ℕ, ◌+◌, ◌^◌, ◌<◌, ◌≤◌, T, List, length, drop, slice_index_or, slice_set}
-use Rattle.std.specs.List.{AllByRecursion as All}
+use Rattle.std.specs.List.{AllByRecursion}
 use Rattle.theory.specs.Distinct.{Distinct}
 use Rattle.theory.specs.Endian.{little_endian, big_endian, little_value, big_value}
 use Rattle.theory.specs.Loops.{Filled, accumulated}
@@ -12,7 +12,7 @@ RuleAtEachEntry = (n : ℕ) (table rule : ℕ → ℕ) → T (agree n table rule
 
 -- different numbers below n are at most n
 abbrev pub FewBelow : Type 0
-FewBelow = (n : ℕ) (xs : List ℕ) → Distinct xs → All (λ x. x < n) xs → length xs ≤ n
+FewBelow = (n : ℕ) (xs : List ℕ) → Distinct xs → AllByRecursion (λ x. x < n) xs → length xs ≤ n
 
 -- one turn of a loop that writes f i at place i
 abbrev pub FillsOneMore : Type 0 → Type 0
@@ -27,7 +27,7 @@ AccumulatesOneMore A X = (turn : A → ℕ → X → A) (a : A) (xs : List X) (i
 -- a number that fits n bytes is what its bytes stand for, and bytes are those of the number that they stand for
 pub record EndianInverse : Type 0 where
   pub little_value_lem : (n v : ℕ) → v < 256 ^ n → little_value (little_endian n v) ≡ v
-  pub little_bytes : (bs : List ℕ) → All (λ b. b < 256) bs → little_endian (length bs) (little_value bs) ≡ bs
+  pub little_bytes : (bs : List ℕ) → AllByRecursion (λ b. b < 256) bs → little_endian (length bs) (little_value bs) ≡ bs
   pub big_value_lem : (n v : ℕ) → v < 256 ^ n → big_value (big_endian n v) ≡ v
-  pub big_bytes : (bs : List ℕ) → All (λ b. b < 256) bs → big_endian (length bs) (big_value bs) ≡ bs
-  pub little_bound : (bs : List ℕ) → All (λ b. b < 256) bs → little_value bs < 256 ^ length bs
+  pub big_bytes : (bs : List ℕ) → AllByRecursion (λ b. b < 256) bs → big_endian (length bs) (big_value bs) ≡ bs
+  pub little_bound : (bs : List ℕ) → AllByRecursion (λ b. b < 256) bs → little_value bs < 256 ^ length bs

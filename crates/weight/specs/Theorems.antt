@@ -1,6 +1,6 @@
 -- What solving the weight lock says of the word x. Assumes nothing.
 use Rattle.std.specs.Prelude.{◌≡◌, ℕ, ◌<◌, ◌≤◌, List, length, ◌≢◌}
-use Rattle.std.specs.List.{AllByRecursion as All}
+use Rattle.std.specs.List.{AllByRecursion}
 use Rattle.algebra.specs.Fields.{Ops}
 use Rattle.theory.specs.Distinct.{Distinct}
 use Rattle.lock.specs.Instances.{Problem, item, word, Satisfies}
@@ -15,7 +15,7 @@ module _ {F : Type 0} (o : Ops F) where
   -- H x = y, and x has the weight w at most: of different places at which it is not zero there are no more
   pub record Light (p : Problem F) (x : List F) : Type 0 where
     pub satisfies : Satisfies o p x
-    pub few : (places : List ℕ) → Distinct places → All (NotZero p x) places → length places ≤ p.shape.w
+    pub few : (places : List ℕ) → Distinct places → AllByRecursion (NotZero p x) places → length places ≤ p.shape.w
     pub weighs : weight_of o x ≤ p.shape.w
 
   -- the word of unknowns that solve the lock is such an x
