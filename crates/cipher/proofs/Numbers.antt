@@ -54,8 +54,8 @@ number_is : (a : List ℕ) (n : ℕ) → NumberOf a n → n ≡ number (get_or a
 number_is a n p = simp (p.first, p.second, p.third, p.fourth) at (whole n p.fits)
 
 -- the bytes of the number of a word
-pub bytes_of : (a : List ℕ) (n : ℕ) → NumberOf a n → n % 256 ∷ n / 256 % 256 ∷ n / 65536 % 256 ∷ n / 16777216 % 256 ∷ [] ≡ four (λ k. get_or a k 0)
-bytes_of a n p = same p.first p.second p.third p.fourth
+pub four_bytes : (a : List ℕ) (n : ℕ) → NumberOf a n → n % 256 ∷ n / 256 % 256 ∷ n / 65536 % 256 ∷ n / 16777216 % 256 ∷ [] ≡ four (λ k. get_or a k 0)
+four_bytes a n p = same p.first p.second p.third p.fourth
 
 -- the eight bits of n from bit k on
 abbrev part : ℕ → ℕ → ℕ

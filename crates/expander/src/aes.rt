@@ -4,7 +4,6 @@ ghost use Rattle.cipher.specs.Keyed.{key_of};
 ghost use Rattle.expander.specs.Blocks.{xored, aes_block};
 ghost use Rattle.theory.specs.Endian.{little_endian};
 ghost use Rattle.expander.specs.Expansions.{length_aes, length-key};
-ghost use Rattle.std.proofs.Common.{rules, arith};
 
 use crate::expander::Expander;
 use crate::keyed::AesExpander;
@@ -35,7 +34,7 @@ impl Expander for AesExpander {
 
     ghost whole = { λ salt seed n _ _. length_aes salt seed n };
 
-    ghost salted = { first_of (Prim.search rules, Prim.grind (arith, Self.row.coded.inj)) };
+    ghost salted = { λ e. e.full };
 
     ghost seeded = { λ e. length-key e.cipher };
 

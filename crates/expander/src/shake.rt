@@ -1,7 +1,6 @@
 // The expander by SHAKE256: each block is the beginning of a stream of its own.
 ghost use Rattle.expander.specs.Blocks.{shake_block};
 ghost use Rattle.expander.specs.Expansions.{length-shake-block};
-ghost use Rattle.std.proofs.Common.{rules, arith};
 
 use crate::expander::Expander;
 use crate::keyed::ShakeExpander;
@@ -22,9 +21,9 @@ impl Expander for ShakeExpander {
 
     ghost whole = { λ salt seed n _ _. length-shake-block salt seed n };
 
-    ghost salted = { first_of (Prim.search rules, Prim.grind (arith, Self.row.coded.inj)) };
+    ghost salted = { λ e. e.full_salt };
 
-    ghost seeded = { first_of (Prim.search rules, Prim.grind (arith, Self.row.coded.inj)) };
+    ghost seeded = { λ e. e.full_seed };
 
     fn code() -> u8 {
         CODE

@@ -9,13 +9,16 @@ mod help;
 use failure::Failure;
 use std::env;
 use std::env::Args;
+use std::process::ExitCode;
 
-fn main(rt: HostRuntime) -> Result<(), Failure> {
-    let result = run(&rt);
-    if let Err(failure) = result {
-        failure::explain(&rt, failure);
+fn main(rt: HostRuntime) -> ExitCode {
+    match run(&rt) {
+        Ok(()) => ExitCode::SUCCESS,
+        Err(failure) => {
+            failure::explain(&rt, failure);
+            ExitCode::FAILURE
+        }
     }
-    result
 }
 
 fn run(rt: &HostRuntime) -> Result<(), Failure> {
