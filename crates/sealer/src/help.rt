@@ -21,12 +21,10 @@ pub fn print(rt: &HostRuntime) -> Result<(), Failure> {
     Ok(())
 }
 
-// Every refusal by its number.
+// Every refusal by its number. The numbers begin at 1 and have no gap.
 pub fn print_refusals(rt: &HostRuntime) -> Result<(), Failure> {
-    for number in 1..=u8::MAX {
-        let Some(refusal) = Refusal::of_number(number) else {
-            break;
-        };
+    for refusal in (1..=u8::MAX).map_while(|n| Refusal::try_from(n).ok()) {
+        let number = refusal.number();
         println!(rt; "{number:>2}  {refusal}")?;
     }
     Ok(())
