@@ -1,5 +1,8 @@
--- Sums and sums of products: what is linear, and the turns of their loops. Assumes nothing.
-use Rattle.std.proofs.Common.{◌≡◌, ℕ, zero, suc, ◌+◌, ◌<◌, ◌≤◌, List, [], ◌∷◌, ◌++◌, length, get_or, drop, sym, refl, ap, ◌∙◌, ap₂, add-zero, suc-add, zero-add, add-one, arith, drop_of_length-le, drop-cons}
+-- Sums and sums of products: what is linear, and what a fold computes. Assumes nothing.
+use Rattle.std.proofs.Common.{◌≡◌, ℕ, zero, suc, ◌+◌, List, [], ◌∷◌, ◌++◌, length, reverse, fold, sym, refl, ap, ◌∙◌, ap₂, add-zero, suc-add, zero-add, arith}
+use Rattle.std.specs.List.{zip}
+use Rattle.std.proofs.lemmas.List.{reverse-append}
+use Rattle.std.proofs.lemmas.List.Sums.{fold-append}
 use Rattle.algebra.specs.Fields.{Ops, Ring}
 use Rattle.algebra.specs.Rings.{var, O, ◌⊕◌, ◌⊗◌}
 use Rattle.algebra.specs.Sums.{total, sum_from, dot_of, eval_of, combined}
@@ -55,38 +58,29 @@ module _ {F : Type 0} {o : Ops F} (laws : Ring o) where
     eval_linear = eval_linear;
   }
 
-  -- one turn of a sum: what is summed, and what is to come
-  pub total_more : (xs : List F) (i : ℕ) (x s t : F) → i < length xs → x ≡ get_or xs i x → t ≡ o.plus s x
-      → o.plus s (total o (drop i xs)) ≡ o.plus t (total o (drop (i + 1) xs))
-  total_more xs i x s t h ex e =
-      ap (λ (p : List F). o.plus s (total o p)) (drop-cons xs i x h ∙ ap (λ (z : F). z ∷ drop (suc i) xs) (sym ex))
-      ∙ sym (laws.plus_assoc s x (total o (drop (suc i) xs)))
-      ∙ ap₂ (λ (z : F) (j : ℕ). o.plus z (total o (drop j xs))) (sym e) (sym (add-one i))
+  -- sums as they are computed, from the left
+  fold_total : (s : F) (xs : List F) → fold o.plus s xs ≡ o.plus s (total o xs)
+  fold_total s [] = sym (laws.plus-zero s)
+  fold_total s (x ∷ xs) = fold_total (o.plus s x) xs ∙ laws.plus_assoc s x (total o xs)
 
-  pub total_all : (xs : List F) (i : ℕ) (s : F) → length xs ≤ i → o.plus s (total o (drop i xs)) ≡ s
-  total_all xs i s h = ap (λ (p : List F). o.plus s (total o p)) (drop_of_length-le xs h) ∙ laws.plus-zero s
+  pub total_by_fold : (z : F) (xs : List F) → z ≡ o.zero → fold o.plus z xs ≡ total o xs
+  total_by_fold z xs e = fold_total z xs ∙ ap (λ (s : F). o.plus s (total o xs)) e ∙ zero-plus laws (total o xs)
 
-  -- one turn of a sum of products
-  pub dot_more : (xs ys : List F) (i : ℕ) (x y s t : F) → i < length xs → i < length ys → x ≡ get_or xs i x → y ≡ get_or ys i y
-      → t ≡ o.plus s (o.times x y)
-      → o.plus s (dot_of o (drop i xs) (drop i ys)) ≡ o.plus t (dot_of o (drop (i + 1) xs) (drop (i + 1) ys))
-  dot_more xs ys i x y s t hx hy ex ey e =
-      ap₂ (λ (p q : List F). o.plus s (dot_of o p q))
-      (drop-cons xs i x hx ∙ ap (λ (z : F). z ∷ drop (suc i) xs) (sym ex))
-      (drop-cons ys i y hy ∙ ap (λ (z : F). z ∷ drop (suc i) ys) (sym ey))
-      ∙ sym (laws.plus_assoc s (o.times x y) (dot_of o (drop (suc i) xs) (drop (suc i) ys)))
-      ∙ ap₂ (λ (z : F) (j : ℕ). o.plus z (dot_of o (drop j xs) (drop j ys))) (sym e) (sym (add-one i))
+  abbrev add_product : F → F × F → F
+  add_product s p = o.plus s (o.times p.0 p.1)
 
-  pub dot_first : (xs ys : List F) (i : ℕ) (s : F) → length xs ≤ i → o.plus s (dot_of o (drop i xs) (drop i ys)) ≡ s
-  dot_first xs ys i s h = ap (λ (p : List F). o.plus s (dot_of o p (drop i ys))) (drop_of_length-le xs h) ∙ laws.plus-zero s
+  fold_dot : (s : F) (xs ys : List F) → fold add_product s (zip xs ys) ≡ o.plus s (dot_of o xs ys)
+  fold_dot s [] ys = sym (laws.plus-zero s)
+  fold_dot s (x ∷ xs) [] = sym (laws.plus-zero s)
+  fold_dot s (x ∷ xs) (y ∷ ys) = fold_dot (o.plus s (o.times x y)) xs ys ∙ laws.plus_assoc s (o.times x y) (dot_of o xs ys)
 
-  pub dot-second : (xs ys : List F) (i : ℕ) (s : F) → length ys ≤ i → o.plus s (dot_of o (drop i xs) (drop i ys)) ≡ s
-  dot-second xs ys i s h = ap (o.plus s) (dot_comm (drop i xs) (drop i ys)) ∙ dot_first ys xs i s h
+  pub dot_by_fold : (z : F) (xs ys : List F) → z ≡ o.zero → fold add_product z (zip xs ys) ≡ dot_of o xs ys
+  dot_by_fold z xs ys e = fold_dot z xs ys ∙ ap (λ (s : F). o.plus s (dot_of o xs ys)) e ∙ zero-plus laws (dot_of o xs ys)
 
--- one turn of Horner's rule
+-- Horner's rule takes the last coefficient first
 module _ {F : Type 0} (o : Ops F) where
-  pub eval_more : (cs : List F) (at : F) (i : ℕ) (c v w m : F) → i < length cs → c ≡ get_or cs i c → v ≡ eval_of o (drop (i + 1) cs) at
-      → m ≡ o.times at v → w ≡ o.plus c m → w ≡ eval_of o (drop i cs) at
-  eval_more cs at i c v w m h e inv em ew =
-      ew ∙ ap (o.plus c) (em ∙ ap (o.times at) (inv ∙ ap (λ (j : ℕ). eval_of o (drop j cs) at) (add-one i)))
-      ∙ sym (ap (λ (l : List F). eval_of o l at) (drop-cons cs i c h ∙ ap (λ (z : F). z ∷ drop (suc i) cs) (sym e)))
+  pub eval_by_fold : (at z : F) (cs : List F) → z ≡ o.zero → fold (λ v c. o.plus c (o.times at v)) z (reverse cs) ≡ eval_of o cs at
+  eval_by_fold at z [] e = e
+  eval_by_fold at z (c ∷ cs) e =
+      let step = λ (v d : F). o.plus d (o.times at v) in
+      ap (fold step z) (reverse-append (c ∷ []) cs) ∙ fold-append step z (reverse cs) (c ∷ []) ∙ ap (λ (v : F). o.plus c (o.times at v)) (eval_by_fold at z cs e)

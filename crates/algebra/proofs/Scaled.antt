@@ -1,6 +1,6 @@
 -- Loops that change a list in place: a factor times each element added to the sum at its place, and zero at every place. Assumes nothing.
-use Rattle.std.proofs.Common.{◌≡◌, ℕ, zero, suc, ◌+◌, ◌<◌, ◌≤◌, List, [], ◌∷◌, ◌++◌, length, get_or, take, drop, set, replicate, sym, refl, ap, ◌∙◌, ap₂, add-one, arith}
-use Rattle.std.proofs.lemmas.List.{get_or_read, take_all, drop_all, drop_more, append-nil, append_assoc, set_at, length-replicate, replicate_more}
+use Rattle.std.proofs.Common.{◌≡◌, ℕ, zero, suc, ◌+◌, ◌<◌, List, [], ◌∷◌, ◌++◌, length, get_or, take, drop, set, replicate, sym, refl, ap, ◌∙◌, ap₂, add-one, arith}
+use Rattle.std.proofs.lemmas.List.{get_or_read, drop_more, append_assoc, set_at, length-replicate, replicate_more}
 use Rattle.algebra.specs.Fields.{Ops}
 use Rattle.algebra.specs.Sums.{combined}
 
@@ -11,10 +11,6 @@ cleared_more {X} z was xs i v h e s =
     ap₂ (λ (x : List X) (y : X). set x i y) s e ∙ ap (λ (x : List X). set (replicate i z ++ x) i z) (drop_more was i z h)
     ∙ set_at (replicate i z) (get_or was i z) (drop (i + 1) was) z i (length-replicate i z)
     ∙ sym (append_assoc (replicate i z) (z ∷ []) (drop (i + 1) was)) ∙ ap (λ (x : List X). x ++ drop (i + 1) was) (replicate_more i z)
-
-pub cleared_all : {X : Type 0} (z : X) (was xs : List X) (i : ℕ) → i ≡ length was → xs ≡ replicate i z ++ drop i was → xs ≡ replicate (length was) z
-cleared_all {X} z was xs i e s =
-    s ∙ ap (λ (x : List X). replicate i z ++ x) (drop_all i was (omega arith)) ∙ append-nil (replicate i z) ∙ ap (λ (n : ℕ). replicate n z) e
 
 module _ {F : Type 0} (o : Ops F) where
   pub length-combined : (a : F) (us vs : List F) → length us ≡ length vs → length (combined o a us vs) ≡ length vs
@@ -71,9 +67,3 @@ module _ {F : Type 0} (o : Ops F) where
       en ∙ ap₂ o.plus (et ∙ ap (o.times a) eu) here in
       ap₂ (λ (x : List F) (y : F). set x i y) s value ∙ partly_more a us was i u h l
       ∙ ap (partly a us was) (sym (add-one i))
-
-  pub scaled_all : (a : F) (us was sums : List F) (i : ℕ) → length was ≤ i → length us ≡ length was
-      → sums ≡ partly a us was i → sums ≡ combined o a us was
-  scaled_all a us was sums i h l s =
-      s ∙ ap₂ (λ (x y : List F). combined o a x y ++ drop i was) (take_all i us (omega arith)) (take_all i was h)
-      ∙ ap (λ (x : List F). combined o a us was ++ x) (drop_all i was h) ∙ append-nil (combined o a us was)

@@ -1,6 +1,6 @@
 -- The integers modulo 251 keep the laws. Assumes nothing.
-use Rattle.std.specs.Prelude.{◌≡◌, ℕ, zero, suc, ◌+◌, ◌*◌, ◌/◌, ◌%◌, ◌^◌, ◌<◌, ◌≤◌, Bool, true, false, List, [], ◌∷◌, length, take, drop, ◌≢◌, nat_lt, slice_index, refl}
-use Rattle.std.proofs.Common.{sym, ap, ap₂, subst, ◌∙◌, mod-eq_of_lt, mul_comm, mul_assoc, mul-add, add-mul, add_comm, div-add-mod', mul-one, add-zero, add-one, arith, lt-ltb, le-ltb, lit≤, drop_of_length-le, drop-cons}
+use Rattle.std.specs.Prelude.{◌≡◌, ℕ, zero, suc, ◌+◌, ◌*◌, ◌/◌, ◌%◌, ◌^◌, ◌<◌, ◌≤◌, Bool, true, false, List, [], ◌∷◌, length, take, ◌≢◌, nat_lt, slice_index, refl}
+use Rattle.std.proofs.Common.{sym, ap, ap₂, subst, ◌∙◌, mod-eq_of_lt, mul_comm, mul_assoc, mul-add, add-mul, add_comm, div-add-mod', mul-one, add-one, arith, lt-ltb, le-ltb, lit≤}
 use Rattle.std.proofs.Math.Nat.{mod-add-mod, add-mod-mod, mul-add-mod_self_right}
 use Rattle.std.proofs.Math.Bridge.{le_prop}
 use Rattle.theory.proofs.Sweeps.{sweep}
@@ -115,28 +115,27 @@ prime_reads = record {
   only = λ bs cs l m e. only bs cs (l ∙ sym m) e;
 }
 
--- ---- the loop that samples, once i bytes are skipped
+-- ---- the sample, by the place of the first byte below 251
 
-abbrev pub skipped : ℕ → Mod251 × ℕ → Mod251 × ℕ
-skipped i rest = (rest.0, i + rest.1)
+skips_to : (bs : List ℕ) (i : ℕ) → i < length bs → slice_index bs i < 251 → ((k : ℕ) → k < i → 251 ≤ slice_index bs k)
+    → first_below bs ≡ (at (slice_index bs i), suc i)
+skips_to [] i h here before = absurd (omega arith)
+skips_to (b ∷ bs) zero h here before = ap (λ (t : Bool). taken t b (first_below bs)) (lt-ltb b 251 here)
+skips_to (b ∷ bs) (suc i) h here before =
+    ap (λ (t : Bool). taken t b (first_below bs)) (le-ltb b 251 (before 0 (omega arith)))
+    ∙ ap (λ (s : Mod251 × ℕ). (s.0, suc s.1)) (skips_to bs i (omega arith) here (λ k l. before (suc k) (omega arith)))
 
-module _ (bs : List ℕ) (i : ℕ) (within : i < length bs) (inv : first_below bs ≡ skipped i (first_below (drop i bs))) where
-  at_byte : (t : Bool) → nat_lt (slice_index bs i) 251 ≡ t → first_below bs ≡ skipped i (taken t (slice_index bs i) (first_below (drop (suc i) bs)))
-  at_byte t e =
-      inv ∙ ap (λ (l : List ℕ). skipped i (first_below l)) (drop-cons bs i 0 within)
-      ∙ ap (λ (s : Bool). skipped i (taken s (slice_index bs i) (first_below (drop (suc i) bs)))) e
+pub sample_found : (bs : List ℕ) (i : ℕ) (x : Mod251) → x.value ≡ slice_index bs i → i < length bs → slice_index bs i < 251
+    → ((k : ℕ) → k < i → 251 ≤ slice_index bs k) → (x, i + 1) ≡ first_below bs
+sample_found bs i x e h here before =
+    ap₂ (λ (y : Mod251) (n : ℕ). (y, n)) (same x (at (slice_index bs i)) (e ∙ sym (mod-eq_of_lt here))) (add-one i) ∙ sym (skips_to bs i h here before)
 
-  pub sample_found : (x : Mod251) → x.value ≡ slice_index bs i → slice_index bs i < 251 → (x, i + 1) ≡ first_below bs
-  sample_found x e h =
-      sym (at_byte true (lt-ltb (slice_index bs i) 251 h) ∙ ap (λ (y : Mod251). (y, i + 1)) (same (at (slice_index bs i)) x (mod-eq_of_lt h ∙ sym e)))
+skips_all : (bs : List ℕ) → ((k : ℕ) → k < length bs → 251 ≤ slice_index bs k) → first_below bs ≡ (at 0, length bs)
+skips_all [] none = refl
+skips_all (b ∷ bs) none =
+    ap (λ (t : Bool). taken t b (first_below bs)) (le-ltb b 251 (none 0 (omega arith)))
+    ∙ ap (λ (s : Mod251 × ℕ). (s.0, suc s.1)) (skips_all bs (λ k l. none (suc k) (omega arith)))
 
-  pub sample_more : 251 ≤ slice_index bs i → first_below bs ≡ skipped (i + 1) (first_below (drop (i + 1) bs))
-  sample_more h =
-      at_byte false (le-ltb (slice_index bs i) 251 h)
-      ∙ ap (λ (n : ℕ). ((first_below (drop (suc i) bs)).0, n)) (omega arith)
-      ∙ ap (λ (j : ℕ). skipped (i + 1) (first_below (drop j bs))) (sym (add-one i))
-
-pub sample_all : (bs : List ℕ) (i : ℕ) → length bs ≡ 16 → i ≡ 16 → first_below bs ≡ skipped i (first_below (drop i bs)) → (x : Mod251) → x.value ≡ 0 → (x, 16) ≡ first_below bs
-sample_all bs i l e inv x z =
-    sym (inv ∙ ap (λ (r : List ℕ). skipped i (first_below r)) (drop_of_length-le bs (omega arith))
-    ∙ ap₂ (λ (y : Mod251) (n : ℕ). (y, n)) (same _ x (sym z)) (add-zero i ∙ e))
+pub sample_none : (bs : List ℕ) (n : ℕ) (x : Mod251) → x.value ≡ 0 → n ≡ length bs → ((k : ℕ) → k < length bs → 251 ≤ slice_index bs k)
+    → (x, n) ≡ first_below bs
+sample_none bs n x e long none = ap₂ (λ (y : Mod251) (m : ℕ). (y, m)) (same x (at 0) e) long ∙ sym (skips_all bs none)

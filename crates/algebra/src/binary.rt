@@ -1,7 +1,7 @@
 // The field of 256 elements. The product is eight fixed steps without a branch, which the compiler vectorises.
 ghost use Rattle.std.specs.Prelude.{◌≡◌};
 ghost use Rattle.algebra.specs.Gf256.{double, times, inverse};
-ghost use Rattle.algebra.specs.Binary.{binary as binary_ops, first};
+ghost use Rattle.algebra.specs.Binary.{at, binary as binary_ops, first};
 ghost use Rattle.algebra.specs.Binaries.{binary_laws, binary_reads};
 
 use crate::elements::Gf256;
@@ -19,7 +19,7 @@ fn product(a: u8, b: u8) -> u8
     let mut sum = 0u8;
     let mut bits = a;
     let mut shifted = b;
-    for i in 0..8usize {
+    for _ in 0..8u8 {
         sum ^= (bits % 2) * shifted;
         bits /= 2;
         shifted = times_x(shifted);
@@ -33,11 +33,20 @@ fn power_254(a: u8) -> u8
 {
     let mut square = a;
     let mut power = 1u8;
-    for i in 0..7usize {
+    for _ in 0..7u8 {
         square = product(square, square);
         power = product(power, square);
     }
     power
+}
+
+// Every byte is an element.
+impl From<u8> for Gf256 {
+    ghost from_gives = { λ b x. x ≡ at b };
+
+    fn from(value: u8) -> Gf256 {
+        Gf256 { value }
+    }
 }
 
 impl Field for Gf256 {
@@ -60,17 +69,15 @@ impl Field for Gf256 {
     }
 
     fn zero() -> Gf256 {
-        Gf256 { value: 0 }
+        Gf256::from(0)
     }
 
     fn one() -> Gf256 {
-        Gf256 { value: 1 }
+        Gf256::from(1)
     }
 
     fn add(self, other: Gf256) -> Gf256 {
-        Gf256 {
-            value: self.value ^ other.value,
-        }
+        Gf256::from(self.value ^ other.value)
     }
 
     fn negate(self) -> Gf256 {
@@ -78,29 +85,22 @@ impl Field for Gf256 {
     }
 
     fn multiply(self, other: Gf256) -> Gf256 {
-        Gf256 {
-            value: product(self.value, other.value),
-        }
+        Gf256::from(product(self.value, other.value))
     }
 
     fn invert(self) -> Gf256 {
-        Gf256 {
-            value: power_254(self.value),
-        }
+        Gf256::from(power_254(self.value))
     }
 
     fn number(self) -> u16 {
-        self.value as u16
+        u16::from(self.value)
     }
 
     fn element(n: u16) -> Gf256 {
-        Gf256 {
-            value: (n % 256) as u8,
-        }
+        Gf256::from((n % 256) as u8)
     }
 
-    // Every byte is an element.
     fn sample(bytes: &[u8; 16]) -> (Gf256, usize) {
-        (Gf256 { value: bytes[0] }, 1)
+        (Gf256::from(bytes[0]), 1)
     }
 }

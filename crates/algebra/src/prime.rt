@@ -24,49 +24,40 @@ impl Field for Mod251 {
     }
 
     fn size() -> usize {
-        MODULUS as usize
+        usize::from(MODULUS)
     }
 
     fn zero() -> Mod251 {
-        Mod251 { value: 0 }
+        Mod251::element(0)
     }
 
     fn one() -> Mod251 {
-        Mod251 { value: 1 }
+        Mod251::element(1)
     }
 
     fn add(self, other: Mod251) -> Mod251 {
-        let sum = self.value as u16 + other.value as u16;
-        Mod251 {
-            value: (sum % MODULUS) as u8,
-        }
+        Mod251::element(self.number() + other.number())
     }
 
     fn negate(self) -> Mod251 {
-        let rest = MODULUS - self.value as u16;
-        Mod251 {
-            value: (rest % MODULUS) as u8,
-        }
+        Mod251::element(MODULUS - self.number())
     }
 
     fn multiply(self, other: Mod251) -> Mod251 {
-        let product = self.value as u16 * other.value as u16;
-        Mod251 {
-            value: (product % MODULUS) as u8,
-        }
+        Mod251::element(self.number() * other.number())
     }
 
     // The power 249, which is the inverse of all but zero.
     fn invert(self) -> Mod251 {
-        let mut power = 1u16;
-        for i in 0..249u16 {
-            power = power * self.value as u16 % MODULUS;
+        let mut power = Mod251::one();
+        for _ in 0..249u8 {
+            power = power.multiply(self);
         }
-        Mod251 { value: power as u8 }
+        power
     }
 
     fn number(self) -> u16 {
-        self.value as u16
+        u16::from(self.value)
     }
 
     fn element(n: u16) -> Mod251 {
@@ -77,11 +68,9 @@ impl Field for Mod251 {
 
     // The first byte below 251; zero where all sixteen are skipped.
     fn sample(bytes: &[u8; 16]) -> (Mod251, usize) {
-        for i in 0..16usize {
-            if bytes[i] < 251 {
-                return (Mod251 { value: bytes[i] }, i + 1);
-            }
+        match bytes.iter().position(|b| *b < 251) {
+            Some(i) => (Mod251 { value: bytes[i] }, i + 1),
+            None => (Mod251 { value: 0 }, 16),
         }
-        (Mod251 { value: 0 }, 16)
     }
 }

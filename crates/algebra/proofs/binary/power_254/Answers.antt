@@ -6,18 +6,18 @@ one_more : (k a r : ℕ) → squares (suc k) a r ≡ squares k (times a a) (time
 unfolding squares
 one_more k a r = refl
 
-pub loop-i-preserved : goal.loop-i-preserved
-loop-i-preserved c =
-    let a = c.loop-i.square in
-    let r = c.loop-i.power in
-    let k = 7 - (c.loop-i.i + 1) in
-    let n : 7 - c.loop-i.i ≡ suc (7 - (c.loop-i.i + 1)) = omega arith in
+pub loop-preserved : goal.loop-preserved
+loop-preserved c =
+    let a = c.loop.square in
+    let r = c.loop.power in
+    let k = 7 - (c.loop.counter + 1) in
+    let n : 7 - c.loop.counter ≡ suc (7 - (c.loop.counter + 1)) = omega arith in
     let ea = c.product-square.ensures in
     let er : c.product-power.result ≡ times r (times a a) = c.product-power.ensures ∙ ap (times r) ea in
-    c.loop-i.invariant ∙ ap (λ (j : ℕ). squares j a r) n ∙ one_more k a r ∙ ap₂ (squares k) (sym ea) (sym er)
+    c.loop.invariant ∙ ap (λ (j : ℕ). squares j a r) n ∙ one_more k a r ∙ ap₂ (squares k) (sym ea) (sym er)
 
 pub returns : goal.returns
 unfolding inverse squares
 returns c =
-    let n : 7 - c.loop-i.i ≡ 0 = omega arith in
-    sym (c.loop-i.invariant ∙ ap (λ (k : ℕ). squares k c.loop-i.square c.loop-i.power) n)
+    let n : 7 - c.loop.counter ≡ 0 = omega arith in
+    sym (c.loop.invariant ∙ ap (λ (k : ℕ). squares k c.loop.square c.loop.power) n)

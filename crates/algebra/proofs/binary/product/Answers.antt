@@ -4,26 +4,26 @@ use Rattle.algebra.specs.Gf256.{double, product_of, times}
 use Rattle.algebra.specs.Products.{double_lt, scaled_lt}
 use Rattle.algebra.proofs.binary.product.Goals as goal
 
-pub loop-i-init : goal.loop-i-init
-loop-i-init c = (omega arith, sym (xor_zero_l (product_of 8 c.args.a c.args.b)))
+pub loop-init : goal.loop-init
+loop-init c = (omega arith, sym (xor_zero_l (product_of 8 c.args.a c.args.b)))
 
 pub overflow_mul-sum : goal.overflow_mul-sum
-overflow_mul-sum c = record { fits = scaled_lt c.loop-i.bits c.loop-i.shifted c.loop-i.invariant.0 }
+overflow_mul-sum c = record { fits = scaled_lt c.loop.bits c.loop.shifted c.loop.invariant.0 }
 
 one_more : (k a b : ℕ) → product_of (suc k) a b ≡ bit_xor ((a % 2) * b) (product_of k (a / 2) (double b))
 unfolding product_of
 one_more k a b = refl
 
-pub loop-i-preserved : goal.loop-i-preserved
-loop-i-preserved c =
-    let s = c.loop-i.sum in
-    let a = c.loop-i.bits in
-    let b = c.loop-i.shifted in
-    let k = 8 - (c.loop-i.i + 1) in
-    let n : 8 - c.loop-i.i ≡ suc (8 - (c.loop-i.i + 1)) = omega arith in
+pub loop-preserved : goal.loop-preserved
+loop-preserved c =
+    let s = c.loop.sum in
+    let a = c.loop.bits in
+    let b = c.loop.shifted in
+    let k = 8 - (c.loop.counter + 1) in
+    let n : 8 - c.loop.counter ≡ suc (8 - (c.loop.counter + 1)) = omega arith in
     let twice = c.times_x-shifted.ensures in (
-      subst (λ (x : ℕ). x < 256) (sym twice) (double_lt b c.loop-i.invariant.0),
-      c.loop-i.invariant.1
+      subst (λ (x : ℕ). x < 256) (sym twice) (double_lt b c.loop.invariant.0),
+      c.loop.invariant.1
           ∙ ap (λ (j : ℕ). bit_xor s (product_of j a b)) n
           ∙ ap (bit_xor s) (one_more k a b)
           ∙ sym (xor_assoc s ((a % 2) * b) (product_of k (a / 2) (double b)))
@@ -37,10 +37,10 @@ none_left a b = refl
 pub returns : goal.returns
 unfolding times
 returns c =
-    let n : 8 - c.loop-i.i ≡ 0 = omega arith in
-    let s = c.loop-i.sum in
+    let n : 8 - c.loop.counter ≡ 0 = omega arith in
+    let s = c.loop.sum in
     sym
-    (c.loop-i.invariant.1
-    ∙ ap (λ (k : ℕ). bit_xor s (product_of k c.loop-i.bits c.loop-i.shifted)) n
-    ∙ ap (bit_xor s) (none_left c.loop-i.bits c.loop-i.shifted)
+    (c.loop.invariant.1
+    ∙ ap (λ (k : ℕ). bit_xor s (product_of k c.loop.bits c.loop.shifted)) n
+    ∙ ap (bit_xor s) (none_left c.loop.bits c.loop.shifted)
     ∙ xor_zero_r s)

@@ -4,5 +4,5 @@ use Rattle.algebra.specs.Gf256.{product_of}
 use Rattle.algebra.proofs.binary.product.Given as goal
 
 -- what is summed, and the product of the bits that are left
-abbrev pub invariant-loop-i : goal.invariant-loop-i
-invariant-loop-i l = (l.shifted < 256) × (product_of 8 l.a l.b ≡ bit_xor l.sum (product_of (8 - l.i) l.bits l.shifted))
+abbrev pub invariant-loop : goal.invariant-loop
+invariant-loop l = (l.shifted < 256) × (product_of 8 l.a l.b ≡ bit_xor l.sum (product_of (8 - l.counter) l.bits l.shifted))

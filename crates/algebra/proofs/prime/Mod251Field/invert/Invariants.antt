@@ -1,5 +1,6 @@
-use Rattle.std.proofs.Common.{◌≡◌, ◌%◌, ◌^◌, ◌<◌}
+use Rattle.std.proofs.Common.{◌≡◌, ◌^◌}
+use Rattle.algebra.specs.Prime.{at}
 use Rattle.algebra.proofs.prime.Mod251Field.invert.Given as goal
 
-abbrev pub invariant-loop-i : goal.invariant-loop-i
-invariant-loop-i l = (l.power < 251) × (l.power ≡ l.self.value ^ l.i % 251)
+abbrev pub invariant-loop : goal.invariant-loop
+invariant-loop l = l.power ≡ at (l.self.value ^ l.counter)

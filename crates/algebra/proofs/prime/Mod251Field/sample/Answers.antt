@@ -1,13 +1,18 @@
-use Rattle.std.proofs.Common.{refl, arith}
-use Rattle.algebra.specs.Primes.{sample_found, sample_more, sample_all}
+use Rattle.std.proofs.Common.{◌<◌, ◌≤◌, refl, rules, tests, arith}
+use Rattle.std.proofs.lemmas.Iterator.{IsFirst-from_position, YieldsList-from_slice}
+use Rattle.algebra.specs.Primes.{sample_found, sample_none}
 use Rattle.algebra.proofs.prime.Mod251Field.sample.Goals as goal
 
-pub returns-then-bytes-i-lt251 : goal.returns-then-bytes-i-lt251
-returns-then-bytes-i-lt251 c =
-    sample_found c.args.bytes.now c.loop-i.i (omega arith) c.loop-i.invariant _ refl c.if-bytes-i-lt251.true
+pub returns-in-Some : goal.returns-in-Some
+returns-in-Some c =
+    let bs = c.args.bytes.now in
+    let first = IsFirst-from_position _ _ _ (λ b. b < 251) (λ b. 251 ≤ b) c.in-Some.ensures.ran (YieldsList-from_slice bs cc)
+    (λ x q k. search (rules, tests)) (λ x q k. search (rules, tests)) in
+    sample_found bs c.in-Some.i _ refl first.0 (first.1 0) (λ k h. first.2 k 0 (omega arith) h)
 
-pub loop-i-preserved : goal.loop-i-preserved
-loop-i-preserved c = sample_more c.args.bytes.now c.loop-i.i (omega arith) c.loop-i.invariant c.if-bytes-i-lt251.false
-
-pub returns : goal.returns
-returns c = sample_all c.args.bytes.now c.loop-i.i (omega arith) (omega arith) c.loop-i.invariant _ refl
+pub returns-in-None : goal.returns-in-None
+returns-in-None c =
+    let bs = c.args.bytes.now in
+    let none = IsFirst-from_position _ _ _ (λ b. b < 251) (λ b. 251 ≤ b) c.in-None.ensures.ran (YieldsList-from_slice bs cc)
+    (λ x q k. search (rules, tests)) (λ x q k. search (rules, tests)) in
+    sample_none bs _ _ refl (omega arith) (λ k h. none k 0 (omega arith) h)

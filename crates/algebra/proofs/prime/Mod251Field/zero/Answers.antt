@@ -1,6 +1,0 @@
-use Rattle.std.proofs.Common.{refl}
-use Rattle.algebra.specs.Primes.{same}
-use Rattle.algebra.proofs.prime.Mod251Field.zero.Goals as goal
-
-pub returns : goal.returns
-returns c = same _ _ refl
