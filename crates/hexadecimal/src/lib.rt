@@ -3,18 +3,17 @@
 
 ghost use Rattle.std.specs.Prelude.{◌≡◌, ℕ, ◌<◌, IfSome, IfOk, Some, None, string_bytes, MatchResult};
 ghost use Rattle.hexadecimal.specs.Digits.{digit_of, encoded, value_of, byte_of, decoded};
+ghost use Rattle.hexadecimal.specs.declared.Unreadable.TheVariants.{NoMemory};
 
-use std::alloc::{AllocError, Global};
+use std::alloc::{AllocError, AllocFailed, Global};
+use std::error::Error;
+use std::fmt;
 
 fn digit(n: u8) -> char
     requires { n < 16 }
     ensures { result ≡ digit_of n }
 {
-    if n < 10 {
-        (b'0' + n) as char
-    } else {
-        (b'a' + (n - 10)) as char
-    }
+    char::from_digit(u32::from(n), 16).unwrap()
 }
 
 // What a digit stands for, in either case of its letter.
@@ -22,22 +21,15 @@ fn value(c: u8) -> Option<u8>
     ensures value { result ≡ value_of c }
     ensures bound { IfSome result (λ v. v < 16) }
 {
-    match c {
-        b'0'..=b'9' => Some(c - b'0'),
-        b'A'..=b'F' => Some(c - b'A' + 10),
-        b'a'..=b'f' => Some(c - b'a' + 10),
-        _ => None,
-    }
+    let v = char::from(c).to_digit(16)?;
+    Some(v as u8)
 }
 
 // The byte that two digits stand for.
 fn byte(high: u8, low: u8) -> Option<u8>
     ensures { result ≡ byte_of high low }
 {
-    match (value(high), value(low)) {
-        (Some(h), Some(l)) => Some(16 * h + l),
-        _ => None,
-    }
+    Some(16 * value(high)? + value(low)?)
 }
 
 // Two lower-case digits for each byte.
@@ -53,27 +45,42 @@ pub fn encode(heap: Global, bytes: &[u8]) -> Result<String, AllocError>
 }
 
 // Why a text is not taken as hexadecimal.
-#[derive(Clone, Copy, Debug)]
+#[derive(Clone, Copy, Debug, PartialEq, Eq)]
 pub enum Unreadable {
     NotHex,
     NoMemory,
+}
+
+impl fmt::Display for Unreadable {
+    fn fmt<W: fmt::Write>(&self, f: &mut fmt::Formatter<W>) -> fmt::Result {
+        f.write_str(match self {
+            Unreadable::NotHex => "the text is not hexadecimal",
+            Unreadable::NoMemory => "there is not enough memory",
+        })
+    }
+}
+
+impl Error for Unreadable {}
+
+impl<T: Drop> From<AllocFailed<T>> for Unreadable {
+    ghost from_gives = { λ _ e. e ≡ NoMemory };
+
+    fn from(_e: AllocFailed<T>) -> Unreadable {
+        Unreadable::NoMemory
+    }
 }
 
 // The bytes that a text of hexadecimal digits stands for.
 pub fn decode(heap: Global, text: &[u8]) -> Result<Vec<u8>, Unreadable>
     ensures { MatchResult result (λ v. decoded text.now ≡ Some v.items) (λ e. (e ≡ Unreadable.NotHex → decoded text.now ≡ None)) }
 {
-    if text.len() % 2 != 0 {
+    let (pairs, rest) = text.as_chunks::<2>();
+    if !rest.is_empty() {
         return Err(Unreadable::NotHex);
     }
     let mut bytes = Vec::new(heap);
-    for i in 0..text.len() / 2 {
-        let Some(b) = byte(text[2 * i], text[2 * i + 1]) else {
-            return Err(Unreadable::NotHex);
-        };
-        let Ok(()) = bytes.push(b) else {
-            return Err(Unreadable::NoMemory);
-        };
+    for &[high, low] in pairs {
+        bytes.push(byte(high, low).ok_or(Unreadable::NotHex)?)?;
     }
     Ok(bytes)
 }

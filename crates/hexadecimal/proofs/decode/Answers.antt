@@ -1,17 +1,20 @@
-use Rattle.std.proofs.Common.{◌/◌, length, sym, arith}
-use Rattle.hexadecimal.proofs.Texts.{decoded_turn, decoded_none, decoded_end, decoded_odd}
+use Rattle.std.proofs.Common.{◌≡◌, ℕ, ◌+◌, ◌*◌, ◌/◌, List, length, sym, ap₂, ◌∙◌, arith}
+use Rattle.std.proofs.lemmas.Bool.Decides.{nat_tests}
+use Rattle.hexadecimal.proofs.Texts.{before, before_none, decoded_pairs, decoded_turn, decoded_odd, decoded_by_pairs}
 use Rattle.hexadecimal.proofs.decode.Goals as goal
 
-pub returns-then-text-ne0 : goal.returns-then-text-ne0
-returns-then-text-ne0 c = λ _. decoded_odd c.args.text.now (length c.args.text.now / 2) (omega arith)
+pub returns-then-not-is_empty : goal.returns-then-not-is_empty
+returns-then-not-is_empty c =
+    let odd : length c.args.text.now ≡ 2 * (length c.args.text.now / 2) + 1 = grind (arith, nat_tests) in
+    λ _. decoded_odd c.args.text.now (length c.args.text.now / 2) odd
 
-pub loop-i-preserved : goal.loop-i-preserved
-loop-i-preserved c =
-    decoded_turn c.args.text.now c.loop-i.i c.in-Some.b _ _ (omega arith) (sym c.in-Some.ensures) c.in-Ok.ensures.items
-    c.loop-i.invariant
+pub loop-high-init : goal.loop-high-init
+loop-high-init c =
+    let even : length c.args.text.now ≡ 2 * (length c.args.text.now / 2) = grind (arith, nat_tests) in
+    decoded_by_pairs c.args.text.now _ even ∙ sym (before_none _)
+    ∙ ap₂ (λ (xs : List ℕ) (ps : List (List ℕ)). before xs (decoded_pairs ps)) (sym c.new-bytes.ensures.items) (sym c.as_chunks.ensures.front)
 
-pub returns-in_default : goal.returns-in_default
-returns-in_default c = λ _. decoded_none c.args.text.now c.loop-i.i _ (omega arith) (sym c.in_default.ensures) c.loop-i.invariant
-
-pub returns : goal.returns
-returns c = decoded_end c.args.text.now c.loop-i.i _ (omega arith) c.loop-i.invariant
+pub loop-high-preserved : goal.loop-high-preserved
+loop-high-preserved c =
+    c.loop-high.invariant
+    ∙ decoded_turn c.as_chunks.result.0.now c.loop-high.high-index _ _ _ c.loop-high-test.true (sym c.byte.ensures ∙ c.in_ok-ok_or.ensures.ok_part) c.in_ok-push.ensures.items

@@ -1,7 +1,7 @@
-use Rattle.std.proofs.Common.{◌≡◌, ◌*◌, drop, vec_items}
+use Rattle.std.proofs.Common.{◌≡◌, drop, vec_items}
 use Rattle.hexadecimal.specs.Digits.{decoded}
-use Rattle.hexadecimal.proofs.Texts.{before}
+use Rattle.hexadecimal.proofs.Texts.{before, decoded_pairs}
 use Rattle.hexadecimal.proofs.decode.Given as goal
 
-abbrev pub invariant-loop-i : goal.invariant-loop-i
-invariant-loop-i l = decoded l.text ≡ before (vec_items l.bytes) (decoded (drop (2 * l.i) l.text))
+abbrev pub invariant-loop-high : goal.invariant-loop-high
+invariant-loop-high l = decoded l.text ≡ before (vec_items l.bytes) (decoded_pairs (drop l.high-index l.pairs))
