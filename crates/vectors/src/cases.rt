@@ -2,130 +2,152 @@
 use crate::repeats;
 use cipher::Aes128;
 use sponge::Sponge;
-use std::alloc::Global;
+use std::alloc::{AllocError, Global};
+use std::error::Error;
+use std::fmt;
+use std::num::ParseIntError;
+use std::str::Split;
 
-// What became of a line.
-#[derive(Clone, Copy)]
-pub enum Case {
+// What a case did that agrees.
+#[derive(Clone, Copy, Debug, PartialEq, Eq)]
+pub enum Done {
     Cipher,
     Hash,
+    // An operation was repeated, and its last result begins with this byte.
     Repeated(u8),
+}
+
+// Why a line is not done. A case for which there is not enough memory counts as unreadable.
+#[derive(Clone, Copy, Debug, PartialEq, Eq)]
+pub enum Failure {
     Differs,
     Unreadable,
 }
 
-pub fn run(heap: Global, line: &str) -> Case {
-    match line.split_once(' ') {
-        Some(("aes128", rest)) => encipher(heap, rest),
-        Some(("shake256", rest)) => hash(heap, rest),
-        Some(("repeat", rest)) => repeat(rest),
-        _ => Case::Unreadable,
+impl Failure {
+    // What is said of the line.
+    pub fn of_line(self) -> &'static str {
+        match self {
+            Failure::Differs => "the answer differs",
+            Failure::Unreadable => "no case",
+        }
     }
 }
 
-// The bytes that a word stands for.
-fn bytes(heap: Global, word: Option<&str>) -> Option<Vec<u8>> {
-    match word {
-        Some("-") => Some(Vec::new(heap)),
-        Some(text) => hexadecimal::decode(heap, text.as_bytes()).ok(),
-        None => None,
+impl fmt::Display for Failure {
+    fn fmt<W: fmt::Write>(&self, f: &mut fmt::Formatter<W>) -> fmt::Result {
+        f.write_str(match self {
+            Failure::Differs => "a case differs",
+            Failure::Unreadable => "a line is no case",
+        })
     }
 }
 
-fn size(word: Option<&str>) -> Option<usize> {
-    word?.parse::<usize>().ok()
-}
+impl Error for Failure {}
 
-fn block(bytes: &[u8]) -> Option<[u8; 16]> {
-    if bytes.len() != 16 {
-        return None;
+impl From<AllocError> for Failure {
+    fn from(_e: AllocError) -> Failure {
+        Failure::Unreadable
     }
-    let mut block = [0u8; 16];
-    block.copy_from_slice(bytes);
-    Some(block)
 }
 
-fn encipher(heap: Global, text: &str) -> Case {
-    let mut words = text.split(' ');
-    let (Some(key), Some(plain), Some(answer)) = (
-        bytes(heap, words.next()),
-        bytes(heap, words.next()),
-        bytes(heap, words.next()),
-    ) else {
-        return Case::Unreadable;
+impl From<hexadecimal::Unreadable> for Failure {
+    fn from(_e: hexadecimal::Unreadable) -> Failure {
+        Failure::Unreadable
+    }
+}
+
+impl From<ParseIntError> for Failure {
+    fn from(_e: ParseIntError) -> Failure {
+        Failure::Unreadable
+    }
+}
+
+pub fn run(heap: Global, line: &str) -> Result<Done, Failure> {
+    let mut words = Words {
+        heap,
+        rest: line.split(' '),
     };
-    let (Some(key), Some(plain)) = (block(&key), block(&plain)) else {
-        return Case::Unreadable;
-    };
-    let cipher = Aes128::new(&key);
-    if same(&cipher.encrypt(&plain), &answer) {
-        Case::Cipher
+    match words.word()? {
+        "aes128" => encipher(&mut words),
+        "shake256" => hash(&mut words),
+        "repeat" => repeat(&mut words),
+        _ => Err(Failure::Unreadable),
+    }
+}
+
+// The words of a case that are not read yet, each to be read as what it stands for.
+#[derive(Drop)]
+struct Words<'a> {
+    heap: Global,
+    rest: Split<'a, char>,
+}
+
+impl<'a> Words<'a> {
+    fn word(&mut self) -> Result<&'a str, Failure> {
+        self.rest.next().ok_or(Failure::Unreadable)
+    }
+
+    fn bytes(&mut self) -> Result<Vec<u8>, Failure> {
+        match self.word()? {
+            "-" => Ok(Vec::new(self.heap)),
+            text => Ok(hexadecimal::decode(self.heap, text.as_bytes())?),
+        }
+    }
+
+    fn block(&mut self) -> Result<[u8; 16], Failure> {
+        let bytes = self.bytes()?;
+        bytes.as_slice().try_into().or(Err(Failure::Unreadable))
+    }
+
+    fn size(&mut self) -> Result<usize, Failure> {
+        Ok(self.word()?.parse()?)
+    }
+}
+
+fn encipher(words: &mut Words) -> Result<Done, Failure> {
+    let key = words.block()?;
+    let plain = words.block()?;
+    let answer = words.bytes()?;
+    let out = Aes128::new(&key).encrypt(&plain);
+    if out.as_slice() == answer.as_slice() {
+        Ok(Done::Cipher)
     } else {
-        Case::Differs
+        Err(Failure::Differs)
     }
 }
 
-fn same(a: &[u8], b: &[u8]) -> bool {
-    a == b
-}
-
-fn hash(heap: Global, text: &str) -> Case {
-    let mut words = text.split(' ');
-    let message = bytes(heap, words.next());
-    let taken = size(words.next());
-    let given = size(words.next());
-    let answer = bytes(heap, words.next());
-    let (Some(message), Some(taken), Some(given), Some(answer)) = (message, taken, given, answer)
-    else {
-        return Case::Unreadable;
-    };
-    if gives(&message, taken, given, &answer) {
-        Case::Hash
-    } else {
-        Case::Differs
-    }
-}
-
-fn repeat(text: &str) -> Case {
-    let mut words = text.split(' ');
-    let what = words.next();
-    let Some(count) = size(words.next()) else {
-        return Case::Unreadable;
-    };
-    match what {
-        Some("block") => Case::Repeated(repeats::blocks(count)),
-        Some("key") => Case::Repeated(repeats::keys(count)),
-        Some("sponge") => Case::Repeated(repeats::hashed(count)),
-        _ => Case::Unreadable,
-    }
-}
-
-// Whether a sponge that takes the message in pieces gives the answer in pieces.
-fn gives(message: &[u8], taken: usize, given: usize, answer: &[u8]) -> bool {
+fn hash(words: &mut Words) -> Result<Done, Failure> {
+    let message = words.bytes()?;
+    let taken = words.size()?;
+    let given = words.size()?;
+    let answer = words.bytes()?;
     if taken == 0 || given == 0 {
-        return false;
+        return Err(Failure::Differs);
     }
     let mut sponge = Sponge::new();
     for piece in message.chunks(taken) {
-        if sponge.absorb(piece).is_err() {
-            return false;
-        }
+        sponge.absorb(piece).or(Err(Failure::Differs))?;
     }
-    for piece in answer.chunks(given) {
-        if !gives_next(&mut sponge, piece) {
-            return false;
-        }
+    let mut out = vec![in words.heap; 0u8; answer.len()]?;
+    for piece in out.chunks_mut(given) {
+        sponge.squeeze(piece);
     }
-    true
+    if out == answer {
+        Ok(Done::Hash)
+    } else {
+        Err(Failure::Differs)
+    }
 }
 
-// Whether these are the next bytes that the sponge gives.
-fn gives_next(sponge: &mut Sponge, piece: &[u8]) -> bool {
-    let mut buffer = [0u8; 512];
-    if piece.len() > 512 {
-        return false;
-    }
-    let out = &mut buffer[0..piece.len()];
-    sponge.squeeze(out);
-    same(out, piece)
+fn repeat(words: &mut Words) -> Result<Done, Failure> {
+    let what = words.word()?;
+    let count = words.size()?;
+    let last = match what {
+        "block" => repeats::blocks(count),
+        "key" => repeats::keys(count),
+        "sponge" => repeats::hashed(count),
+        _ => return Err(Failure::Unreadable),
+    };
+    Ok(Done::Repeated(last))
 }

@@ -8,34 +8,24 @@
 mod cases;
 mod repeats;
 
-use anyhow::anyhow;
-use cases::Case;
+use cases::Done;
 use std::io::{BufRead, BufReader};
 
 fn main(rt: HostRuntime) -> anyhow::Result<()> {
-    run(&rt)
-}
-
-fn run(rt: &HostRuntime) -> anyhow::Result<()> {
     let mut ciphers = 0u64;
     let mut hashes = 0u64;
-    let mut line_number = 0u64;
-    for line in BufReader::new(rt.alloc(), rt.stdin())?.lines(rt.alloc()) {
+    let lines = BufReader::new(rt.alloc(), rt.stdin())?.lines(rt.alloc());
+    for (i, line) in lines.enumerate() {
         let line = line?;
-        line_number = line_number.saturating_add(1);
         match cases::run(rt.alloc(), line.as_str()) {
-            Case::Cipher => ciphers = ciphers.saturating_add(1),
-            Case::Hash => hashes = hashes.saturating_add(1),
-            Case::Repeated(result) => println!(rt;
+            Ok(Done::Cipher) => ciphers = ciphers.saturating_add(1),
+            Ok(Done::Hash) => hashes = hashes.saturating_add(1),
+            Ok(Done::Repeated(result)) => println!(rt;
                 "{line}: the last result begins with {result:02x}"
             )?,
-            Case::Differs => {
-                println!(rt; "line {line_number}: the answer differs: {line}")?;
-                return Err(anyhow!("a case differs"));
-            }
-            Case::Unreadable => {
-                println!(rt; "line {line_number}: no case: {line}")?;
-                return Err(anyhow!("a line is no case"));
+            Err(failure) => {
+                println!(rt; "line {}: {}: {line}", i + 1, failure.of_line())?;
+                return Err(failure.into());
             }
         }
     }
