@@ -1,6 +1,7 @@
 // The digest of a message, which a seal binds: H(01, message).
 use crate::failure::Failure;
 use hashes::Hasher;
+use std::env::Args;
 use std::fs::File;
 use std::io;
 use std::io::Read;
@@ -16,12 +17,13 @@ const GIB: u64 = 1 << 30;
 fn of_reader<R: Read>(rt: &HostRuntime, reader: &mut R, piece: &mut [u8]) -> io::Result<[u8; 32]> {
     let mut hasher = Hasher::new(MESSAGE_TAG);
     let mut total = 0u64;
+    // A loop has to end, so it counts, further than any file goes.
     for _ in 0..u64::MAX {
         let n = reader.read(piece)?;
         if n == 0 {
             break;
         }
-        hasher.update(&piece[0..n]);
+        hasher.update(&piece[..n]);
         let before = total;
         total = total.saturating_add(n as u64);
         tell_progress(rt, before, total);
@@ -46,17 +48,24 @@ fn of_file(rt: &HostRuntime, name: &str) -> io::Result<[u8; 32]> {
     }
 }
 
-// Prints the digest and the name of a file, or says on standard error why it cannot be read. Tells whether it could.
-pub fn print(rt: &HostRuntime, name: &str) -> Result<bool, Failure> {
-    match of_file(rt, name) {
-        Ok(digest) => {
-            let text = hexadecimal::encode(rt.alloc(), &digest)?;
-            println!(rt; "{text}  {name}")?;
-            Ok(true)
-        }
-        Err(e) => {
-            eprintln!(rt; "sealer: cannot read {name}: {e}")?;
-            Ok(false)
+// Prints the digest and the name of each file, or says on standard error why it cannot be read. One that cannot does not keep the
+// others from being done.
+pub fn print(rt: &HostRuntime, names: Args) -> Result<(), Failure> {
+    if names.len() == 0 {
+        return Err(Failure::NoName);
+    }
+    let mut outcome = Ok(());
+    for name in names {
+        match of_file(rt, name.as_str()) {
+            Ok(digest) => {
+                let text = hexadecimal::encode(rt.alloc(), &digest)?;
+                println!(rt; "{text}  {name}")?;
+            }
+            Err(e) => {
+                eprintln!(rt; "sealer: cannot read {name}: {e}")?;
+                outcome = Err(Failure::Unread);
+            }
         }
     }
+    outcome
 }

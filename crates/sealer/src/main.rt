@@ -8,14 +8,15 @@ mod help;
 
 use failure::Failure;
 use std::env;
-use std::env::Args;
 use std::process::ExitCode;
 
 fn main(rt: HostRuntime) -> ExitCode {
     match run(&rt) {
         Ok(()) => ExitCode::SUCCESS,
+        // Each file has been named already.
+        Err(Failure::Unread) => ExitCode::FAILURE,
         Err(failure) => {
-            failure::explain(&rt, failure);
+            let _ = eprintln!(rt; "sealer: {failure}");
             ExitCode::FAILURE
         }
     }
@@ -27,32 +28,12 @@ fn run(rt: &HostRuntime) -> Result<(), Failure> {
     let Some(command) = words.next() else {
         return help::print(rt);
     };
+    // An enum of the commands, read from the word, would only list them a second time.
     match command.as_str() {
         "help" | "--help" | "-h" => help::print(rt),
         "demo" => demo::run(rt),
-        "digest" => digests(rt, words),
+        "digest" => digest::print(rt, words),
         "refusals" => help::print_refusals(rt),
-        other => {
-            eprintln!(rt; "sealer: there is no command '{other}'; try: sealer help")?;
-            Err(Failure::Said)
-        }
-    }
-}
-
-// The digest of each file named. One that cannot be read does not keep the others from being done.
-fn digests(rt: &HostRuntime, names: Args) -> Result<(), Failure> {
-    let mut any = false;
-    let mut all = true;
-    for name in names {
-        any = true;
-        all = digest::print(rt, name.as_str())? && all;
-    }
-    if !any {
-        eprintln!(rt; "sealer: digest wants the name of a file, or - for standard input")?;
-    }
-    if any && all {
-        Ok(())
-    } else {
-        Err(Failure::Said)
+        _ => Err(Failure::NoCommand(command)),
     }
 }
