@@ -1,18 +1,14 @@
 -- Hexadecimal, one byte after the other. Assumes nothing.
-use Rattle.std.proofs.Common.{◌≡◌, ℕ, zero, suc, ◌+◌, ◌*◌, ◌/◌, ◌%◌, ◌<◌, List, [], ◌∷◌, ◌++◌, length, get_or, slice_index, take, drop, Some, None, Option, sym, refl, ap, ◌∙◌, ap₂, append_assoc, arith}
+use Rattle.std.proofs.Common.{◌≡◌, ℕ, zero, suc, ◌+◌, ◌*◌, ◌/◌, ◌%◌, ◌<◌, List, [], ◌∷◌, ◌++◌, length, get_or, slice_index, take, drop, Some, None, Option, sym, refl, ap, ◌∙◌, append_assoc, arith}
 use Rattle.std.proofs.lemmas.List.{take_more, drop_more}
-use Rattle.std.proofs.lemmas.Bool.Decides.{nat_tests}
 use Rattle.std.specs.Simd.{first_chunks}
 use Rattle.hexadecimal.specs.Digits.{digit_of, encoded, byte_of, cons, decoded}
-
-pub digit_ascii : (n : ℕ) → n < 16 → digit_of n < 128
-digit_ascii n h = grind (arith, nat_tests)
 
 encoded-append : (xs ys : List ℕ) → encoded (xs ++ ys) ≡ encoded xs ++ encoded ys
 encoded-append [] ys = refl
 encoded-append (x ∷ xs) ys = ap (λ (l : List ℕ). digit_of (x / 16) ∷ digit_of (x % 16) ∷ l) (encoded-append xs ys)
 
-encoded_more : (bs : List ℕ) (i : ℕ) → i < length bs
+pub encoded_more : (bs : List ℕ) (i : ℕ) → i < length bs
     → encoded (take (i + 1) bs) ≡ encoded (take i bs) ++ (digit_of (get_or bs i 0 / 16) ∷ digit_of (get_or bs i 0 % 16) ∷ [])
 encoded_more bs i h = ap encoded (take_more bs i 0 h) ∙ encoded-append (take i bs) (get_or bs i 0 ∷ [])
 
@@ -51,17 +47,6 @@ decoded_odd (c ∷ d ∷ rest) (suc n) e = ap (cons (byte_of c d)) (decoded_odd 
 cons-before : (xs : List ℕ) (b : ℕ) (rest : Option (List ℕ)) → before xs (cons (Some b) rest) ≡ before (xs ++ (b ∷ [])) rest
 cons-before xs b None = refl
 cons-before xs b (Some ys) = ap (λ (zs : List ℕ). Some zs) (sym (append_assoc xs (b ∷ []) ys))
-
--- one turn of encoding: two characters x and y are pushed, one after the other
-pub encoded_turn : (bs : List ℕ) (i : ℕ) (s t u e f : List ℕ) (x y : ℕ) → i < length bs → s ≡ encoded (take i bs)
-    → t ≡ s ++ e → u ≡ t ++ f → e ≡ x ∷ [] → f ≡ y ∷ [] → x ≡ digit_of (get_or bs i 0 / 16) → y ≡ digit_of (get_or bs i 0 % 16)
-    → u ≡ encoded (take (i + 1) bs)
-encoded_turn bs i s t u e f x y lt inv et eu ee ef ex ey =
-    eu
-    ∙ ap₂ (λ (a b : List ℕ). a ++ b) (et ∙ ap₂ (λ (a b : List ℕ). a ++ b) inv ee) ef
-    ∙ append_assoc (encoded (take i bs)) (x ∷ []) (y ∷ [])
-    ∙ ap₂ (λ (a b : ℕ). encoded (take i bs) ++ (a ∷ b ∷ [])) ex ey
-    ∙ sym (encoded_more bs i lt)
 
 -- one turn of decoding, once the pairs before place i stand for the bytes xs, and the pair there for b
 pub decoded_turn : (pairs : List (List ℕ)) (i : ℕ) (xs ys : List ℕ) (b : ℕ) → i < length pairs

@@ -4,12 +4,6 @@ use Rattle.algebra.specs.Gf256.{double, product_of, times}
 use Rattle.algebra.specs.Products.{double_lt, scaled_lt}
 use Rattle.algebra.proofs.binary.product.Goals as goal
 
-pub loop-init : goal.loop-init
-loop-init c = (omega arith, sym (xor_zero_l (product_of 8 c.args.a c.args.b)))
-
-pub overflow_mul-sum : goal.overflow_mul-sum
-overflow_mul-sum c = record { fits = scaled_lt c.loop.bits c.loop.shifted c.loop.invariant.0 }
-
 one_more : (k a b : ℕ) → product_of (suc k) a b ≡ bit_xor ((a % 2) * b) (product_of k (a / 2) (double b))
 unfolding product_of
 one_more k a b = refl
