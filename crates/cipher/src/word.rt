@@ -11,7 +11,7 @@ pub(crate) type Word = [u8; 4];
 fn number(a: &Word) -> u32
     ensures { NumberOf a.now result }
 {
-    u32::from_le_bytes([a[0], a[1], a[2], a[3]])
+    u32::from_le_bytes(*a)
 }
 
 // The sum of two words in GF(256), byte by byte.
@@ -35,12 +35,7 @@ pub(crate) fn double(a: Word) -> Word
 pub(crate) fn sub_word(a: Word) -> Word
     ensures { result ≡ sub_word a }
 {
-    [
-        substitute(a[0]),
-        substitute(a[1]),
-        substitute(a[2]),
-        substitute(a[3]),
-    ]
+    a.map(substitute)
 }
 
 // RotWord.
