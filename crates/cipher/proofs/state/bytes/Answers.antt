@@ -1,6 +1,6 @@
 use Rattle.std.proofs.Common.{◌/◌, ◌%◌, [], get_or, rules}
 use Rattle.cipher.specs.Expansion.{bytes_of}
-use Rattle.cipher.proofs.Fours.{made}
+use Rattle.cipher.proofs.Arrays.{made}
 use Rattle.cipher.proofs.state.bytes.Goals as goal
 
 pub returns : goal.returns

@@ -1,6 +1,6 @@
 use Rattle.std.proofs.Common.{get_or, rules}
 use Rattle.cipher.specs.Word.{◌⊕◌, add_words}
-use Rattle.cipher.proofs.Fours.{made}
+use Rattle.cipher.proofs.Arrays.{made}
 use Rattle.cipher.proofs.word.add.Goals as goal
 
 pub returns : goal.returns

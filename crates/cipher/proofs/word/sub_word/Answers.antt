@@ -1,7 +1,7 @@
 use Rattle.std.proofs.Common.{rules}
 use Rattle.cipher.specs.Sbox.{sbox}
 use Rattle.cipher.specs.Word.{sub_word}
-use Rattle.cipher.proofs.Fours.{mapped}
+use Rattle.cipher.proofs.Arrays.{mapped}
 use Rattle.cipher.proofs.word.sub_word.Goals as goal
 
 pub returns : goal.returns
