@@ -1,3 +1,4 @@
+pub mod Arrays
 pub mod Fours
 pub mod Numbers
 pub mod Products

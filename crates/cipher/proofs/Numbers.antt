@@ -3,7 +3,6 @@ use Rattle.std.proofs.Common.{◌≡◌, ℕ, ◌+◌, ◌*◌, ◌/◌, ◌%◌
 use lib.Bits.{bit_and, bit_xor, and_le_r, and_mask, and_mod, and_shr, xor_lt, xor_mod, xor_shr}
 use Rattle.algebra.specs.Gf256.{double}
 use Rattle.cipher.specs.Word.{NumberOf, four, add_words, double_word}
-use Rattle.cipher.proofs.Fours.{same}
 
 -- each byte of a word is below m
 abbrev pub Below : ℕ → List ℕ → Type 0
@@ -14,48 +13,16 @@ abbrev number : ℕ → ℕ → ℕ → ℕ → ℕ
 number a0 a1 a2 a3 = a0 + a1 * 256 + a2 * 65536 + a3 * 16777216
 
 -- a number made of four bytes has those bytes
-module _ (a0 a1 a2 a3 : ℕ) (h0 : a0 < 256) (h1 : a1 < 256) (h2 : a2 < 256) (h3 : a3 < 256) where
-  at0 : number a0 a1 a2 a3 % 256 ≡ a0
-  at0 = omega arith
-
-  at1 : number a0 a1 a2 a3 / 256 % 256 ≡ a1
-  at1 = omega arith
-
-  at2 : number a0 a1 a2 a3 / 65536 % 256 ≡ a2
-  at2 = omega arith
-
-  at3 : number a0 a1 a2 a3 / 16777216 % 256 ≡ a3
-  at3 = omega arith
-
-  made : (n : ℕ) → n ≡ number a0 a1 a2 a3 → NumberOf (a0 ∷ a1 ∷ a2 ∷ a3 ∷ []) n
-  made n e = record {
-    fits = omega arith;
-    first = ap (λ (x : ℕ). x % 256) e ∙ at0;
-    second = ap (λ (x : ℕ). x / 256 % 256) e ∙ at1;
-    third = ap (λ (x : ℕ). x / 65536 % 256) e ∙ at2;
-    fourth = ap (λ (x : ℕ). x / 16777216 % 256) e ∙ at3;
-  }
-
-pub number_of : (a : List ℕ) (n : ℕ) → Below 256 a → n ≡ number (get_or a 0 0) (get_or a 1 0) (get_or a 2 0) (get_or a 3 0) → NumberOf a n
-number_of a n h e =
-    let m = made (get_or a 0 0) (get_or a 1 0) (get_or a 2 0) (get_or a 3 0) h.0 h.1 h.2 h.3 n e in
-    record { fits = m.fits; first = m.first; second = m.second; third = m.third; fourth = m.fourth }
+number_of : (a : List ℕ) (n : ℕ) → Below 256 a → n ≡ number (get_or a 0 0) (get_or a 1 0) (get_or a 2 0) (get_or a 3 0) → NumberOf a n
+number_of a n h e = record { fits = omega arith; first = omega arith; second = omega arith; third = omega arith; fourth = omega arith }
 
 -- a number is what its bytes make
-whole : (n : ℕ) → n < 2 ^ 32 → n ≡ number (n % 256) (n / 256 % 256) (n / 65536 % 256) (n / 16777216 % 256)
-whole n h =
-    let d1 : n ≡ n % 256 + n / 256 * 256 = omega arith in
-    let d2 : n / 256 ≡ n / 256 % 256 + n / 65536 * 256 = omega arith in
-    let d3 : n / 65536 ≡ n / 65536 % 256 + n / 16777216 * 256 = omega arith in
-    let d4 : n / 16777216 ≡ n / 16777216 % 256 = omega arith in
-    omega arith
-
 number_is : (a : List ℕ) (n : ℕ) → NumberOf a n → n ≡ number (get_or a 0 0) (get_or a 1 0) (get_or a 2 0) (get_or a 3 0)
-number_is a n p = simp (p.first, p.second, p.third, p.fourth) at (whole n p.fits)
+number_is a n p = omega arith
 
 -- the bytes of the number of a word
 pub four_bytes : (a : List ℕ) (n : ℕ) → NumberOf a n → n % 256 ∷ n / 256 % 256 ∷ n / 65536 % 256 ∷ n / 16777216 % 256 ∷ [] ≡ four (λ k. get_or a k 0)
-four_bytes a n p = same p.first p.second p.third p.fourth
+four_bytes a n p = cc
 
 -- the eight bits of n from bit k on
 abbrev part : ℕ → ℕ → ℕ

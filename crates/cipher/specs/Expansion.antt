@@ -37,3 +37,7 @@ schedule_of key = expanded 40 key
 -- a table with x^n in each place n, for the ten rounds
 abbrev pub HoldsPowers : List ℕ → Type 0
 HoldsPowers table = (n : ℕ) → n < 10 → slice_index table n ≡ power_of_x n
+
+-- the key of round r: words 4r to 4r + 3 of a schedule
+abbrev pub round_key : List (List ℕ) → ℕ → List (List ℕ)
+round_key w r = four (λ c. slice_index_or w (4 * r + c) [])

@@ -1,10 +1,10 @@
-// KeyExpansion: the schedule of a key, word by word.
-ghost use Rattle.std.specs.Prelude.{◌≡◌, ◌≤◌};
-ghost use Rattle.cipher.specs.Expansion.{rcon, schedule_of, HoldsPowers};
+// KeyExpansion: the schedule of a key, round by round.
+ghost use Rattle.std.specs.Prelude.{◌≡◌, ℕ, ◌+◌, ◌<◌, List};
+ghost use Rattle.cipher.specs.Expansion.{power_of_x, schedule_of, round_key, HoldsPowers};
 ghost use Rattle.cipher.specs.Keyed.{key_of};
 
 use crate::key::Aes128;
-use crate::state::columns;
+use crate::state::{State, columns};
 use crate::word::{Word, add, rot_word, sub_word};
 
 // The powers of x in GF(256), from x^0 on, of which the rounds' constants are made.
@@ -17,33 +17,28 @@ fn powers() -> &'static [u8; 10]
     &POWERS
 }
 
-// Rcon[j], the constant of round j.
-fn round_constant(j: usize) -> Word
-    requires { (1 ≤ j) × (j ≤ 10) }
-    ensures { result ≡ rcon j }
+// The key of the next round, whose constant is the power of x: each of its words is the sum of the one before it and the one four before it, and
+// the one before the first goes through a change.
+fn next_key(key: &State, power: u8) -> State
+    ensures { (first : List ℕ) (r : ℕ) → r < 10 → key.now ≡ round_key (schedule_of first) r → power ≡ power_of_x r → result ≡ round_key (schedule_of first) (r + 1) }
 {
-    [powers()[j - 1], 0, 0, 0]
+    let [a, b, c, d] = *key;
+    let a = add(a, add(sub_word(rot_word(d)), [power, 0, 0, 0]));
+    let b = add(b, a);
+    let c = add(c, b);
+    let d = add(d, c);
+    [a, b, c, d]
 }
 
-// The schedule of a key: the key's own words, and then each word from the one before it and the one four before it.
+// The schedule of a key: the key itself, and then the key of each round from that of the round before.
 fn expand(key: &[u8; 16]) -> [Word; 44]
     ensures { result ≡ schedule_of key.now }
 {
-    let first = columns(key);
-    let mut w = [[0; 4]; 44];
-    for c in 0..4 {
-        w[c] = first[c];
+    let mut keys = [columns(key); 11];
+    for (r, power) in powers().iter().enumerate() {
+        keys[r + 1] = next_key(&keys[r], *power);
     }
-    for i in 4..44 {
-        let before = w[i - 1];
-        let temp = if i % 4 == 0 {
-            add(sub_word(rot_word(before)), round_constant(i / 4))
-        } else {
-            before
-        };
-        w[i] = add(w[i - 4], temp);
-    }
-    w
+    *keys.as_flattened().as_array().unwrap()
 }
 
 impl Aes128 {

@@ -11,10 +11,11 @@ impl Aes128 {
     pub fn encrypt(&self, block: &[u8; 16]) -> [u8; 16]
         ensures { result ≡ encrypted (key_of self.now) block.now }
     {
-        let mut s = add_round_key(&columns(block), &self.words, 0);
-        for r in 1..10 {
-            s = add_round_key(&mix_columns(&sub_shift(&s)), &self.words, r);
+        let (keys, _) = self.words.as_chunks();
+        let mut s = add_round_key(&columns(block), &keys[0]);
+        for key in &keys[1..10] {
+            s = add_round_key(&mix_columns(&sub_shift(&s)), key);
         }
-        bytes(&add_round_key(&sub_shift(&s), &self.words, 10))
+        bytes(&add_round_key(&sub_shift(&s), &keys[10]))
     }
 }

@@ -1,9 +1,11 @@
 // The steps of a round on the state, which is held by columns.
-ghost use Rattle.std.specs.Prelude.{◌≡◌, ◌≤◌};
-ghost use Rattle.cipher.specs.Expansion.{words_of, bytes_of};
+ghost use Rattle.std.specs.Prelude.{◌≡◌, ℕ, List};
+ghost use Rattle.cipher.specs.Expansion.{words_of, bytes_of, round_key};
+ghost use Rattle.cipher.specs.Word.{mix_column as mix_column_of};
 ghost use Rattle.cipher.specs.Cipher.{sub_bytes, shift_rows, mix_columns, add_round_key};
 
 use crate::word::{Word, add, mix_column, sub_word};
+use std::array;
 
 // The state of FIPS 197 as its four columns: row r of column c is at [c][r].
 pub(crate) type State = [Word; 4];
@@ -12,27 +14,14 @@ pub(crate) type State = [Word; 4];
 pub(crate) fn columns(bytes: &[u8; 16]) -> State
     ensures { result ≡ words_of bytes.now }
 {
-    [
-        [bytes[0], bytes[1], bytes[2], bytes[3]],
-        [bytes[4], bytes[5], bytes[6], bytes[7]],
-        [bytes[8], bytes[9], bytes[10], bytes[11]],
-        [bytes[12], bytes[13], bytes[14], bytes[15]],
-    ]
+    *bytes.as_chunks().0.as_array().unwrap()
 }
 
 // The bytes of the columns.
 pub(crate) fn bytes(s: &State) -> [u8; 16]
     ensures { result ≡ bytes_of s.now }
 {
-    let [
-        [a0, a1, a2, a3],
-        [b0, b1, b2, b3],
-        [c0, c1, c2, c3],
-        [d0, d1, d2, d3],
-    ] = *s;
-    [
-        a0, a1, a2, a3, b0, b1, b2, b3, c0, c1, c2, c3, d0, d1, d2, d3,
-    ]
+    array::from_fn(|i| s[i / 4][i % 4])
 }
 
 // SubBytes and ShiftRows: row r of a column comes from r columns further on. The columns are copied whole, so that they stay in
@@ -53,23 +42,22 @@ pub(crate) fn sub_shift(s: &State) -> State
 pub(crate) fn mix_columns(s: &State) -> State
     ensures { result ≡ mix_columns s.now }
 {
-    [
-        mix_column(&s[0]),
-        mix_column(&s[1]),
-        mix_column(&s[2]),
-        mix_column(&s[3]),
-    ]
+    s.map(
+        |column|
+            ensures { result ≡ mix_column_of column }
+        { mix_column(&column) },
+    )
 }
 
-// AddRoundKey of round r.
-pub(crate) fn add_round_key(s: &State, w: &[Word; 44], r: usize) -> State
-    requires { r ≤ 10 }
-    ensures { result ≡ add_round_key w.now r s.now }
+// AddRoundKey of the round that the key is for.
+pub(crate) fn add_round_key(s: &State, key: &State) -> State
+    ensures { (w : List (List ℕ)) (r : ℕ) → key.now ≡ round_key w r → result ≡ add_round_key w r s.now }
 {
+    // One by one: over `array::from_fn` the closure needs a contract of its own, which is longer.
     [
-        add(s[0], w[4 * r]),
-        add(s[1], w[4 * r + 1]),
-        add(s[2], w[4 * r + 2]),
-        add(s[3], w[4 * r + 3]),
+        add(s[0], key[0]),
+        add(s[1], key[1]),
+        add(s[2], key[2]),
+        add(s[3], key[3]),
     ]
 }

@@ -1,8 +1,9 @@
-// Four bytes at once. Sums and doubles are taken on the 32-bit number that the bytes make, which needs a quarter of the steps.
+// Four bytes at once.
 ghost use Rattle.std.specs.Prelude.{◌≡◌};
 ghost use Rattle.cipher.specs.Word.{NumberOf, add_words, double_word, sub_word, rot_word, mix_column};
 
 use crate::sbox::substitute;
+use std::array;
 
 // A word of FIPS 197: a column of the state, or a word of the key schedule.
 pub(crate) type Word = [u8; 4];
@@ -11,17 +12,18 @@ pub(crate) type Word = [u8; 4];
 fn number(a: &Word) -> u32
     ensures { NumberOf a.now result }
 {
-    u32::from_le_bytes([a[0], a[1], a[2], a[3]])
+    u32::from_le_bytes(*a)
 }
 
 // The sum of two words in GF(256), byte by byte.
 pub(crate) fn add(a: Word, b: Word) -> Word
     ensures { result ≡ add_words a b }
 {
-    (number(&a) ^ number(&b)).to_le_bytes()
+    array::from_fn(|k| a[k] ^ b[k])
 }
 
-// Each byte times x in GF(256): moved up by one bit, and 27 added where a bit came out.
+// Each byte times x in GF(256): moved up by one bit, and 27 added where a bit came out. This is done to the number that the bytes make: byte by
+// byte, a block takes more than half as many instructions again.
 pub(crate) fn double(a: Word) -> Word
     ensures { result ≡ double_word a }
 {
@@ -35,12 +37,7 @@ pub(crate) fn double(a: Word) -> Word
 pub(crate) fn sub_word(a: Word) -> Word
     ensures { result ≡ sub_word a }
 {
-    [
-        substitute(a[0]),
-        substitute(a[1]),
-        substitute(a[2]),
-        substitute(a[3]),
-    ]
+    a.map(substitute)
 }
 
 // RotWord.

@@ -1,45 +1,14 @@
 // Keccak-f[1600] (FIPS 202) on 25 lanes of 64 bits, lane (x, y) at x + 5 * y.
 //
-// A step map is a function of one lane, as the standard writes it, and one that makes all 25 at fixed indices, which the compiler inlines
-// and computes.
+// A step map makes its 25 lanes from a function of one index, as the standard writes it.
 #![tactic(auto)]
 
-ghost use Rattle.std.specs.Prelude.{◌≡◌, ◌<◌, map};
+ghost use Rattle.std.specs.Prelude.{◌≡◌, ℕ, ◌<◌, map, slice_index};
 ghost use Rattle.std.specs.List.{range_with_len};
-ghost use Rattle.keccak.specs.Keccak.{column, theta_at, theta as theta_of, rho_at, rho as rho_of, pi_at, pi as pi_of, chi_at, chi as chi_of, round_of, permuted};
+ghost use Rattle.keccak.specs.Tables.{constants};
+ghost use Rattle.keccak.specs.Keccak.{lanes as lanes_of, column, theta as theta_of, rho as rho_of, pi as pi_of, chi as chi_of, round_of, permuted};
 
-// The 25 lanes of a step map, from its function of one lane.
-macro_rules! lanes {
-    ($lane:ident, $($s:expr),+) => {
-        [
-            $lane($($s),+, 0),
-            $lane($($s),+, 1),
-            $lane($($s),+, 2),
-            $lane($($s),+, 3),
-            $lane($($s),+, 4),
-            $lane($($s),+, 5),
-            $lane($($s),+, 6),
-            $lane($($s),+, 7),
-            $lane($($s),+, 8),
-            $lane($($s),+, 9),
-            $lane($($s),+, 10),
-            $lane($($s),+, 11),
-            $lane($($s),+, 12),
-            $lane($($s),+, 13),
-            $lane($($s),+, 14),
-            $lane($($s),+, 15),
-            $lane($($s),+, 16),
-            $lane($($s),+, 17),
-            $lane($($s),+, 18),
-            $lane($($s),+, 19),
-            $lane($($s),+, 20),
-            $lane($($s),+, 21),
-            $lane($($s),+, 22),
-            $lane($($s),+, 23),
-            $lane($($s),+, 24),
-        ]
-    };
-}
+use std::array;
 
 // How far each lane is turned.
 const ROTATIONS: [u32; 25] = [
@@ -74,32 +43,46 @@ const ROUND_CONSTANTS: [u64; 24] = [
     0x8000000080008008,
 ];
 
-// The sum of column x, which is its xor.
-fn column_of(s: &[u64; 25], x: usize) -> u64
-    requires { x < 5 }
-    ensures { result ≡ column s.now x }
-{
-    s[x] ^ s[x + 5] ^ s[x + 10] ^ s[x + 15] ^ s[x + 20]
-}
-
-fn columns(s: &[u64; 25]) -> [u64; 5]
-    ensures { result ≡ map (column s.now) (range_with_len 0 5) }
+// The lanes that f gives at each index. The calls stand one by one, for the compiler to compute the indices: of `array::from_fn` it keeps the
+// loop of 25, and a permutation then takes nine times the instructions.
+fn lanes<F: Fn(usize) -> u64>(f: F) -> [u64; 25]
+    requires { (i : ℕ) → i < 25 → F.pre f i }
+    ensures { (lane : ℕ → ℕ) → ((i r : ℕ) → i < 25 → F.post f i r → r ≡ lane i) → result ≡ lanes_of lane }
 {
     [
-        column_of(s, 0),
-        column_of(s, 1),
-        column_of(s, 2),
-        column_of(s, 3),
-        column_of(s, 4),
+        f(0),
+        f(1),
+        f(2),
+        f(3),
+        f(4),
+        f(5),
+        f(6),
+        f(7),
+        f(8),
+        f(9),
+        f(10),
+        f(11),
+        f(12),
+        f(13),
+        f(14),
+        f(15),
+        f(16),
+        f(17),
+        f(18),
+        f(19),
+        f(20),
+        f(21),
+        f(22),
+        f(23),
+        f(24),
     ]
 }
 
-fn theta_at(s: &[u64; 25], c: &[u64; 5], i: usize) -> u64
-    requires within { i < 25 }
-    requires sums { c.now ≡ map (column s.now) (range_with_len 0 5) }
-    ensures { result ≡ theta_at s.now i }
+// The sums of the five columns, which are their xors.
+fn columns(s: &[u64; 25]) -> [u64; 5]
+    ensures { result ≡ map (column s.now) (range_with_len 0 5) }
 {
-    s[i] ^ (c[(i + 4) % 5] ^ c[(i + 1) % 5].rotate_left(1))
+    array::from_fn(|x| s[x] ^ s[x + 5] ^ s[x + 10] ^ s[x + 15] ^ s[x + 20])
 }
 
 // Adds to each lane the sums of two columns near it.
@@ -107,58 +90,39 @@ fn theta(s: &[u64; 25]) -> [u64; 25]
     ensures { result ≡ theta_of s.now }
 {
     let c = columns(s);
-    lanes!(theta_at, s, &c)
-}
-
-fn rho_at(s: &[u64; 25], i: usize) -> u64
-    requires { i < 25 }
-    ensures { result ≡ rho_at s.now i }
-{
-    s[i].rotate_left(ROTATIONS[i])
+    lanes(|i| s[i] ^ (c[(i + 4) % 5] ^ c[(i + 1) % 5].rotate_left(1)))
 }
 
 // Turns each lane by its offset.
 fn rho(s: &[u64; 25]) -> [u64; 25]
     ensures { result ≡ rho_of s.now }
 {
-    lanes!(rho_at, s)
-}
-
-fn pi_at(s: &[u64; 25], i: usize) -> u64
-    requires { i < 25 }
-    ensures { result ≡ pi_at s.now i }
-{
-    s[(i % 5 + 3 * (i / 5)) % 5 + 5 * (i % 5)]
+    lanes(|i| s[i].rotate_left(ROTATIONS[i]))
 }
 
 // Moves the lanes.
 fn pi(s: &[u64; 25]) -> [u64; 25]
     ensures { result ≡ pi_of s.now }
 {
-    lanes!(pi_at, s)
-}
-
-fn chi_at(s: &[u64; 25], i: usize) -> u64
-    requires { i < 25 }
-    ensures { result ≡ chi_at s.now i }
-{
-    let row = 5 * (i / 5);
-    s[i] ^ (!s[row + (i + 1) % 5] & s[row + (i + 2) % 5])
+    lanes(|i| s[(i % 5 + 3 * (i / 5)) % 5 + 5 * (i % 5)])
 }
 
 // Mixes the lanes of each row.
 fn chi(s: &[u64; 25]) -> [u64; 25]
     ensures { result ≡ chi_of s.now }
 {
-    lanes!(chi_at, s)
+    lanes(|i| {
+        let row = 5 * (i / 5);
+        s[i] ^ (!s[row + (i + 1) % 5] & s[row + (i + 2) % 5])
+    })
 }
 
-fn round(s: &[u64; 25], r: usize) -> [u64; 25]
-    requires { r < 24 }
-    ensures { result ≡ round_of r s.now }
+// One round, the one whose constant this is.
+fn round(s: &[u64; 25], constant: u64) -> [u64; 25]
+    ensures { (r : ℕ) → constant ≡ slice_index constants r → result ≡ round_of r s.now }
 {
     let mut mixed = chi(&pi(&rho(&theta(s))));
-    mixed[0] ^= ROUND_CONSTANTS[r];
+    mixed[0] ^= constant;
     mixed
 }
 
@@ -166,7 +130,7 @@ fn round(s: &[u64; 25], r: usize) -> [u64; 25]
 pub fn permute(s: &mut [u64; 25])
     ensures { s.new ≡ permuted s.old }
 {
-    for r in 0..24 {
-        *s = round(s, r);
+    for constant in &ROUND_CONSTANTS {
+        *s = round(s, *constant);
     }
 }

@@ -1,19 +1,19 @@
-use Rattle.std.proofs.Common.{◌≡◌, sym, refl, ap, ◌∙◌, add-one, arith}
-use Rattle.keccak.specs.Keccak.{round_of, rounds, permuted}
+use Rattle.std.proofs.Common.{◌≡◌, refl, add-one, arith}
+use Rattle.keccak.specs.Tables.{shifted, register, constant_bit, constant_of, constants}
+use Rattle.keccak.specs.Keccak.{rounds, permuted}
 use Rattle.keccak.proofs.permute.Goals as goal
 
-pub loop-r-init : goal.loop-r-init
+pub loop-constant-init : goal.loop-constant-init
 unfolding rounds
-loop-r-init c = refl
+loop-constant-init c = refl
 
-pub loop-r-preserved : goal.loop-r-preserved
-unfolding rounds
-loop-r-preserved c =
-    c.round.ensures ∙ ap (round_of c.loop-r.r) c.loop-r.invariant
-    ∙ sym (ap (λ n. rounds n c.args.s.now) (add-one c.loop-r.r))
+-- the table in the code is what the rule computes
+pub loop-constant-preserved : goal.loop-constant-preserved
+unfolding rounds shifted register constant_bit constant_of constants
+loop-constant-preserved c = rw add-one (cc (c.round.ensures c.loop-constant.constant-index refl))
 
 pub returns : goal.returns
 unfolding permuted
 returns c =
-    let all : c.loop-r.r ≡ 24 = omega arith in
-    c.loop-r.invariant ∙ ap (λ n. rounds n c.args.s.now) all
+    let all : c.loop-constant.constant-index ≡ 24 = omega arith in
+    cc

@@ -1,7 +1,6 @@
-use Rattle.std.proofs.Common.{refl}
-use Rattle.cipher.specs.Expansion.{words_of}
+use Rattle.std.proofs.Common.{◌∙◌, rules}
+use Rattle.cipher.proofs.Schedules.{cut_bytes}
 use Rattle.cipher.proofs.state.columns.Goals as goal
 
 pub returns : goal.returns
-unfolding words_of
-returns c = refl
+returns c = let cut = c.as_chunks.ensures.front ∙ cut_bytes c.args.bytes.now c.told-bytes in search rules

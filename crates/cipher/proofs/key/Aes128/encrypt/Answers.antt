@@ -1,35 +1,42 @@
-use Rattle.std.proofs.Common.{◌≡◌, suc, ◌+◌, ◌-◌, sym, refl, ap, ◌∙◌, ap₂, arith}
-use Rattle.cipher.specs.Expansion.{words_of, bytes_of}
+use Rattle.std.proofs.Common.{◌≡◌, ℕ, suc, List, [], take, drop, length, get_or, refl, ap, ap₂, ◌∙◌, add-one, arith}
+use Rattle.std.proofs.lemmas.List.FromFn.{get_or-map-range_with_len}
+use Rattle.cipher.specs.Expansion.{words_of, bytes_of, round_key}
 use Rattle.cipher.specs.Cipher.{sub_bytes, shift_rows, mix_columns, add_round_key, rounds, cipher, encrypted}
 use Rattle.cipher.specs.Keyed.{key_of}
+use Rattle.cipher.proofs.Schedules.{cut}
 use Rattle.cipher.proofs.key.Aes128.encrypt.Goals as goal
 
-pub loop-r-init : goal.loop-r-init
-unfolding rounds
-loop-r-init c = refl
+-- the keys of the nine rounds
+abbrev middle : List (List (List ℕ)) → List (List (List ℕ))
+middle keys = take 9 (drop 1 keys)
 
-pub loop-r-preserved : goal.loop-r-preserved
+pub loop-key-init : goal.loop-key-init
 unfolding rounds
-loop-r-preserved c =
-    let w = c.args.self.now.words in
-    let r = c.loop-r.r in
-    let back : r ≡ suc (r - 1) = omega arith in
-    let more : r + 1 - 1 ≡ suc (r - 1) = omega arith in
-    let mixed : c.mix_columns.result ≡ mix_columns (shift_rows (sub_bytes (rounds w (r - 1) c.add_round_key-s.result))) =
-    c.mix_columns.ensures ∙ ap mix_columns (c.sub_shift.ensures ∙ ap (λ x. shift_rows (sub_bytes x)) c.loop-r.invariant) in
-    c.add_round_key-s-in-loop-r.ensures
-    ∙ ap₂ (add_round_key w) back mixed
-    ∙ sym (ap (λ n. rounds w n c.add_round_key-s.result) more)
+loop-key-init c = refl
+
+pub loop-key-preserved : goal.loop-key-preserved
+unfolding rounds
+loop-key-preserved c =
+    let self = c.args.self.now in
+    let w = self.words in
+    let i = c.loop-key.key-index in
+    let keys = ap middle (c.as_chunks.ensures.front ∙ cut w self.full) in
+    let nine : length (middle c.as_chunks.result.0.now) ≡ 9 = ap length keys in
+    let key = ap (λ (k : List (List (List ℕ))). get_or k i []) keys ∙ get_or-map-range_with_len (round_key w) 1 9 i (suc i) [] (omega arith) (omega arith) in
+    let mixed = c.mix_columns.ensures ∙ ap mix_columns (c.sub_shift.ensures ∙ ap (λ x. shift_rows (sub_bytes x)) c.loop-key.invariant) in
+    rw add-one (c.add_round_key-s-in-loop-key.ensures w (suc i) key ∙ ap (add_round_key w (suc i)) mixed)
 
 pub returns : goal.returns
 unfolding key_of encrypted cipher
 returns c =
     let self = c.args.self.now in
     let w = self.words in
-    let nine : c.loop-r.r - 1 ≡ 9 = omega arith in
-    let start : c.add_round_key-s.result ≡ add_round_key w 0 (words_of c.args.block.now) =
-    c.add_round_key-s.ensures ∙ ap (add_round_key w 0) c.columns.ensures in
-    let s : c.loop-r.s ≡ rounds w 9 (add_round_key w 0 (words_of c.args.block.now)) = c.loop-r.invariant ∙ ap₂ (rounds w) nine start in
-    let last : c.add_round_key.result ≡ cipher w (words_of c.args.block.now) =
-    c.add_round_key.ensures ∙ ap (add_round_key w 10) (c.sub_shift-2.ensures ∙ ap (λ x. shift_rows (sub_bytes x)) s) in
-    c.bytes.ensures ∙ ap bytes_of (last ∙ ap (λ x. cipher x (words_of c.args.block.now)) self.expanded)
+    let block = words_of c.args.block.now in
+    let keys = c.as_chunks.ensures.front ∙ cut w self.full in
+    let key = λ (r : ℕ). ap (λ (k : List (List (List ℕ))). get_or k r []) keys in
+    let nine : length (middle c.as_chunks.result.0.now) ≡ 9 = ap (λ k. length (middle k)) keys in
+    let all : c.loop-key.key-index ≡ 9 = omega arith in
+    let start = c.add_round_key-s.ensures w 0 (key 0) ∙ ap (add_round_key w 0) c.columns.ensures in
+    let s : c.loop-key.s ≡ rounds w 9 (add_round_key w 0 block) = c.loop-key.invariant ∙ ap₂ (rounds w) all start in
+    let last = c.add_round_key.ensures w 10 (key 10) ∙ ap (add_round_key w 10) (c.sub_shift-2.ensures ∙ ap (λ x. shift_rows (sub_bytes x)) s) in
+    c.bytes.ensures ∙ ap bytes_of (last ∙ ap (λ x. cipher x block) self.expanded)

@@ -1,6 +1,6 @@
-use Rattle.std.proofs.Common.{◌≡◌, ◌-◌}
+use Rattle.std.proofs.Common.{◌≡◌}
 use Rattle.cipher.specs.Cipher.{rounds}
 use Rattle.cipher.proofs.key.Aes128.encrypt.Given as goal
 
-abbrev pub invariant-loop-r : goal.invariant-loop-r
-invariant-loop-r l = l.s ≡ rounds l.self.words (l.r - 1) l.initial.s
+abbrev pub invariant-loop-key : goal.invariant-loop-key
+invariant-loop-key l = l.s ≡ rounds l.self.words l.key-index l.initial.s
