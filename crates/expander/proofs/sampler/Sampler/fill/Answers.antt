@@ -5,13 +5,13 @@ use Rattle.expander.specs.Streams.{drawn, after}
 use Rattle.expander.proofs.Draws.{drawn_join, after_join}
 use Rattle.expander.proofs.sampler.Sampler.fill.Goals as goal
 
-pub loop-i-preserved : goal.loop-i-preserved
-loop-i-preserved g c f k is =
+pub loop-x-preserved : goal.loop-x-preserved
+loop-x-preserved g c f k is =
     let sampled = g.F.Field.sampled in
-    let i = c.loop-i.i in
-    let before = c.loop-i.invariant f k is in
+    let i = c.loop-x.x-index in
+    let before = c.loop-x.invariant f k is in
     let one = c.next.ensures f (after sampled f k i) before.1 in (
-      take_more_set c.loop-i.out i c.next.result (omega arith)
+      take_more_set c.loop-x.out i c.next.result (omega arith)
           ∙ ap (λ (xs : List g.row.F.Denot). xs ++ (c.next.result ∷ [])) before.0
           ∙ ap (λ (x : g.row.F.Denot). drawn sampled f k i ++ (x ∷ [])) one.0
           ∙ sym (drawn_join sampled f k i 1),
@@ -21,8 +21,8 @@ loop-i-preserved g c f k is =
 pub returns : goal.returns
 returns g c f k is =
     let sampled = g.F.Field.sampled in
-    let all : c.loop-i.i ≡ length c.args.out.now = omega arith in
-    let done = c.loop-i.invariant f k is in (
-      sym (take_all c.loop-i.i c.loop-i.out (omega arith)) ∙ done.0 ∙ ap (drawn sampled f k) all,
-      subst (λ (n : ℕ). Sampling g.S.Stream.gives c.loop-i.self f (after sampled f k n)) all done.1,
+    let all : c.loop-x.x-index ≡ length c.args.out.now = omega arith in
+    let done = c.loop-x.invariant f k is in (
+      sym (take_all c.loop-x.x-index c.loop-x.out (omega arith)) ∙ done.0 ∙ ap (drawn sampled f k) all,
+      subst (λ (n : ℕ). Sampling g.S.Stream.gives c.loop-x.self f (after sampled f k n)) all done.1,
     )
