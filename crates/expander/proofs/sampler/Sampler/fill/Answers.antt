@@ -1,5 +1,5 @@
-use Rattle.std.proofs.Common.{◌≡◌, ℕ, List, [], ◌∷◌, ◌++◌, length, sym, ap, ◌∙◌, subst, arith}
-use Rattle.std.proofs.lemmas.List.{take_more_set, take_all}
+use Rattle.std.proofs.Common.{List, [], ◌∷◌, ◌++◌, sym, ap, ◌∙◌, subst, arith}
+use Rattle.std.proofs.lemmas.List.{take_more_set}
 use Rattle.expander.specs.Sampling.{Sampling}
 use Rattle.expander.specs.Streams.{drawn, after}
 use Rattle.expander.proofs.Draws.{drawn_join, after_join}
@@ -16,13 +16,4 @@ loop-x-preserved g c f k is =
           ∙ ap (λ (x : g.row.F.Denot). drawn sampled f k i ++ (x ∷ [])) one.0
           ∙ sym (drawn_join sampled f k i 1),
       subst (Sampling g.S.Stream.gives c.next.new.self f) (sym (after_join sampled f k i 1)) one.1,
-    )
-
-pub returns : goal.returns
-returns g c f k is =
-    let sampled = g.F.Field.sampled in
-    let all : c.loop-x.x-index ≡ length c.args.out.now = omega arith in
-    let done = c.loop-x.invariant f k is in (
-      sym (take_all c.loop-x.x-index c.loop-x.out (omega arith)) ∙ done.0 ∙ ap (drawn sampled f k) all,
-      subst (λ (n : ℕ). Sampling g.S.Stream.gives c.loop-x.self f (after sampled f k n)) all done.1,
     )
