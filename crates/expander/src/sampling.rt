@@ -1,7 +1,7 @@
 // Elements sampled from a source one after the other. The source is asked for a block only when an element needs bytes of it.
 ghost use Rattle.std.specs.Prelude.{◌≡◌, ℕ, ◌+◌, ◌++◌, length, take, drop};
-ghost use Rattle.expander.specs.Sampling.{Sampling};
-ghost use Rattle.expander.specs.Streams.{window, drawn, after, seed_stream, tagged_stream};
+ghost use Rattle.expander.specs.Sampling.{Sampling, Draws};
+ghost use Rattle.expander.specs.Streams.{window, drawn, seed_stream, tagged_stream};
 ghost use Rattle.std.specs.List.{flat_map};
 
 use crate::expander::Expander;
@@ -53,7 +53,7 @@ impl<S: Stream> Sampler<S> {
 
     // Fills `out` with the next elements.
     pub fn fill<F: Field>(&mut self, out: &mut [F])
-        ensures { (f : ℕ → ℕ) (k : ℕ) → Sampling S.Stream.gives self.old f k → (out.new ≡ drawn F.Field.sampled f k (length out.old)) × Sampling S.Stream.gives self.new f (after F.Field.sampled f k (length out.old)) }
+        ensures { Draws S.Stream.gives F.Field.sampled self.old (length out.old) out.new self.new }
     {
         for x in out.iter_mut() {
             *x = self.next();
