@@ -10,8 +10,7 @@ impl KeccakState {
         requires { at < 200 }
         ensures { self.new.lanes ≡ with_byte self.old.lanes at byte }
     {
-        let shift = 8 * (at % 8) as u32;
-        self.lanes[at / 8] ^= (byte as u64) << shift;
+        self.lanes[at / 8] ^= (byte as u64) << (8 * (at % 8));
     }
 
     // Xors eight bytes into those of lane `at`.
@@ -27,8 +26,7 @@ impl KeccakState {
         requires { at < 200 }
         ensures { result ≡ byte_at self.now.lanes at }
     {
-        let shift = 8 * (at % 8) as u32;
-        ((self.lanes[at / 8] >> shift) & 0xff) as u8
+        self.lane(at / 8)[at % 8]
     }
 
     // The eight bytes of lane `at`.
