@@ -8,6 +8,7 @@ ghost use Rattle.expander.specs.Expansions.{length_aes, length-key};
 use crate::expander::Expander;
 use crate::keyed::AesExpander;
 use cipher::Aes128;
+use std::array;
 
 const CODE: u8 = 1;
 
@@ -16,11 +17,7 @@ fn masked(salt: &[u8; 16], number: u64) -> [u8; 16]
     ensures { result ≡ xored salt.now (little_endian 16 number) }
 {
     let bytes = u128::from(number).to_le_bytes();
-    let mut out = [0; 16];
-    for i in 0..16usize {
-        out[i] = salt[i] ^ bytes[i];
-    }
-    out
+    array::from_fn(|i| salt[i] ^ bytes[i])
 }
 
 impl Expander for AesExpander {

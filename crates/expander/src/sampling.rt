@@ -1,7 +1,7 @@
 // Elements sampled from a source one after the other. The source is asked for a block only when an element needs bytes of it.
-ghost use Rattle.std.specs.Prelude.{◌≡◌, ℕ, ◌+◌, ◌≤◌, length, take, drop};
-ghost use Rattle.expander.specs.Sampling.{Sampling};
-ghost use Rattle.expander.specs.Streams.{window, drawn, after, seed_stream, tagged_stream};
+ghost use Rattle.std.specs.Prelude.{◌≡◌, ℕ, ◌+◌, ◌++◌, length, take, drop};
+ghost use Rattle.expander.specs.Sampling.{Sampling, Draws};
+ghost use Rattle.expander.specs.Streams.{window, drawn, seed_stream, tagged_stream};
 ghost use Rattle.std.specs.List.{flat_map};
 
 use crate::expander::Expander;
@@ -12,16 +12,6 @@ use algebra::Field;
 
 const BLOCK: usize = 16;
 
-// The sixteen bytes from place `at` on.
-fn sixteen(pair: &[u8; 32], at: usize) -> [u8; 16]
-    requires { at ≤ 16 }
-    ensures { result ≡ take 16 (drop at pair.now) }
-{
-    let mut out = [0; BLOCK];
-    out.copy_from_slice(&pair[at..at + BLOCK]);
-    out
-}
-
 impl<S: Stream> Sampler<S> {
     // A sampler of what the source gives from here on.
     pub fn new(source: S) -> Sampler<S>
@@ -29,51 +19,65 @@ impl<S: Stream> Sampler<S> {
     {
         Sampler {
             source,
-            pair: [0; 32],
+            block: [0; BLOCK],
             at: BLOCK,
         }
     }
 
-    // The next element.
+    // The next sixteen bytes, where `following` are those after the block.
+    fn sixteen(&self, following: &[u8; 16]) -> [u8; 16]
+        ensures { result ≡ drop self.now.at self.now.block ++ take self.now.at following.now }
+    {
+        let mut out = [0; BLOCK];
+        let (held, more) = out.split_at_mut(BLOCK - self.at);
+        held.copy_from_slice(&self.block[self.at..]);
+        more.copy_from_slice(&following[..self.at]);
+        out
+    }
+
+    // The next element. It is sampled first as if zeros followed the block, and again with the bytes that do where it uses any of them.
     pub fn next<F: Field>(&mut self) -> F
         ensures { (f : ℕ → ℕ) (k : ℕ) → Sampling S.Stream.gives self.old f k → (result ≡ (F.Field.sampled (window f k 16)).0) × Sampling S.Stream.gives self.new f (k + (F.Field.sampled (window f k 16)).1) }
     {
-        let (x, used) = F::sample(&sixteen(&self.pair, self.at));
+        let (x, used) = F::sample(&self.sixteen(&[0; BLOCK]));
         if self.at + used <= BLOCK {
             self.at += used;
             return x;
         }
         let block = self.source.next_block();
-        self.pair[BLOCK..2 * BLOCK].copy_from_slice(&block);
-        let (y, taken) = F::sample(&sixteen(&self.pair, self.at));
-        self.pair[0..BLOCK].copy_from_slice(&block);
+        let (y, taken) = F::sample(&self.sixteen(&block));
+        self.block = block;
         self.at = self.at + taken - BLOCK;
         y
     }
 
     // Fills `out` with the next elements.
     pub fn fill<F: Field>(&mut self, out: &mut [F])
-        ensures { (f : ℕ → ℕ) (k : ℕ) → Sampling S.Stream.gives self.old f k → (out.new ≡ drawn F.Field.sampled f k (length out.old)) × Sampling S.Stream.gives self.new f (after F.Field.sampled f k (length out.old)) }
+        ensures { Draws S.Stream.gives F.Field.sampled self.old (length out.old) out.new self.new }
     {
-        for i in 0..out.len() {
-            out[i] = self.next();
+        for x in out.iter_mut() {
+            *x = self.next();
         }
     }
+}
+
+// Fills `out` with the first elements of what the source gives from here on.
+fn sample_from<F: Field, S: Stream>(source: S, out: &mut [F])
+    ensures { (f : ℕ → ℕ) (k : ℕ) → S.Stream.gives source f k → out.new ≡ drawn F.Field.sampled f k (length out.old) }
+{
+    Sampler::new(source).fill(out);
 }
 
 // Fills `out` with the first elements of the stream of a seed.
 pub fn sample_list<F: Field, E: Expander>(salt: &[u8; 16], seed: &[u8; 16], out: &mut [F])
     ensures { out.new ≡ drawn F.Field.sampled (seed_stream E.Expander.block salt.now seed.now) 0 (length out.old) }
 {
-    let stream: SeedStream<E> = SeedStream::new(salt, seed);
-    let mut sampler = Sampler::new(stream);
-    sampler.fill(out);
+    sample_from(SeedStream::<E>::new(salt, seed), out);
 }
 
 // Fills `out` with the first elements of S(tag, parts).
 pub fn sample_tagged<F: Field>(tag: u8, parts: &[&[u8]], out: &mut [F])
     ensures { out.new ≡ drawn F.Field.sampled (tagged_stream tag (flat_map (λ x. x.now) parts.now)) 0 (length out.old) }
 {
-    let mut sampler = Sampler::new(hashes::stream(tag, parts));
-    sampler.fill(out);
+    sample_from(hashes::stream(tag, parts), out);
 }

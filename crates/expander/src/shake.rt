@@ -4,7 +4,7 @@ ghost use Rattle.expander.specs.Expansions.{length-shake-block};
 
 use crate::expander::Expander;
 use crate::keyed::ShakeExpander;
-use hashes::Hasher;
+use crate::stream::Stream;
 
 const CODE: u8 = 2;
 
@@ -37,12 +37,6 @@ impl Expander for ShakeExpander {
     }
 
     fn block(&self, number: u64) -> [u8; 16] {
-        let mut hasher = Hasher::new(TAG);
-        hasher.update(&self.salt);
-        hasher.update(&self.seed);
-        hasher.update(&number.to_be_bytes());
-        let mut out = [0; 16];
-        hasher.into_stream().squeeze(&mut out);
-        out
+        hashes::stream(TAG, &[&self.salt, &self.seed, &number.to_be_bytes()]).next_block()
     }
 }

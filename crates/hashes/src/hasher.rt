@@ -9,6 +9,8 @@ pub struct Hasher {
     sponge: Sponge,
 }
 
+// Each clause says of every tag and message that the hasher may have taken what holds then; what holds differs, so that one word for
+// their common beginning would read no plainer.
 impl Hasher {
     // H(tag, ..), with nothing taken yet.
     pub fn new(tag: u8) -> Hasher
@@ -23,6 +25,7 @@ impl Hasher {
     pub fn update(&mut self, bytes: &[u8])
         ensures { (tag : ℕ) (m : List ℕ) → Hashing self.old tag m → Hashing self.new tag (m ++ bytes.now) }
     {
+        // The sponge of a hasher has not turned, and refuses nothing.
         let _ = self.sponge.absorb(bytes);
     }
 
@@ -41,8 +44,7 @@ impl Hasher {
         ensures { (tag : ℕ) (m : List ℕ) → Hashing self tag m → Streaming result tag m 0 }
     {
         let Hasher { mut sponge } = self;
-        let mut nothing = [0; 0];
-        sponge.squeeze(&mut nothing);
+        sponge.squeeze(&mut []);
         sponge
     }
 }

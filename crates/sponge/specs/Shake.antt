@@ -16,11 +16,6 @@ unfoldable pub mixed : ℕ → List ℕ → List ℕ → List ℕ
 mixed p [] s = s
 mixed p (b ∷ bs) s = mixed (p + 1) bs (with_byte s p b)
 
--- the bytes as a part of a lane, the first at its byte j
-unfoldable pub lane_of : ℕ → List ℕ → ℕ
-lane_of j [] = 0
-lane_of j (b ∷ bs) = bit_xor (b * 2 ^ (8 * j) % 2 ^ 64) (lane_of (j + 1) bs)
-
 -- what pads a block that lacks n + 1 bytes: 0x1f and n zeros, with 0x80 xored into the last of them
 unfoldable pub ending : ℕ → List ℕ
 ending n = slice_set (0x1f ∷ replicate n 0) n (bit_xor (slice_index (0x1f ∷ replicate n 0) n) 0x80)

@@ -1,10 +1,10 @@
--- What a sponge holds, and what absorbing does. Assumes nothing.
-use Rattle.std.specs.Prelude.{◌≡◌, ℕ, ◌*◌, ◌/◌, ◌%◌, List, ◌++◌, length, drop, Ok, Err, Result}
+-- What a sponge holds, and what absorbing and squeezing do. Assumes nothing.
+use Rattle.std.specs.Prelude.{◌≡◌, ℕ, ◌+◌, ◌*◌, ◌/◌, ◌%◌, List, ◌++◌, length, drop, Ok, Err, Result}
 use Rattle.refusal.specs.declared.Refusal.{Refusal}
 use Rattle.refusal.specs.declared.Refusal.TheVariants.{SpongeTurned}
 use Rattle.sponge.specs.declared.state.Sponge.{Sponge}
 use Rattle.sponge.specs.declared.state.Mode.TheVariants.{Absorbing, Squeezing}
-use Rattle.sponge.specs.Shake.{mixed, blocks, closed, after}
+use Rattle.sponge.specs.Shake.{mixed, blocks, closed, after, shake}
 
 -- q blocks of m permuted in, and the rest mixed in
 abbrev pub held_at : ℕ → List ℕ → List ℕ
@@ -32,7 +32,15 @@ pub record Streams (s : Sponge) (m : List ℕ) (k : ℕ) : Type 0 where
 unfoldable pub Turned : Sponge → List ℕ → ℕ → Type 0
 Turned s m k = Streams s m k
 
+-- s takes the bytes as the next of its message, and is t then
+abbrev pub Takes : Sponge → List ℕ → Sponge → Type 0
+Takes s bs t = (m : List ℕ) → Absorbed s m → Absorbed t (m ++ bs)
+
+-- s, which has turned, gives the bytes as the next n of its output, and is t then
+abbrev pub Gives : Sponge → ℕ → List ℕ → Sponge → Type 0
+Gives s n bs t = (m : List ℕ) (k : ℕ) → Turned s m k → (bs ≡ shake m k n) × Turned t m (k + n)
+
 -- absorbing is refused exactly when the sponge has turned, with nothing changed
 abbrev pub AbsorbCall : List ℕ → Sponge → Sponge → Result (Unit {0}) Refusal → Type 0
-AbsorbCall bs s t (Ok u) = ((m : List ℕ) (k : ℕ) → Turned s m k → ⊥) × ((m : List ℕ) → Absorbed s m → Absorbed t (m ++ bs))
+AbsorbCall bs s t (Ok u) = ((m : List ℕ) (k : ℕ) → Turned s m k → ⊥) × Takes s bs t
 AbsorbCall bs s t (Err e) = ((m : List ℕ) → Absorbed s m → ⊥) × (t ≡ s) × (e ≡ SpongeTurned)

@@ -6,13 +6,14 @@ pub(crate) struct KeccakState {
     pub(crate) lanes: [u64; 25],
 }
 
+// One type has both modes, since a sponge that has turned refuses bytes with a number of the refusals.
 #[derive(Clone, Copy)]
 pub(crate) enum Mode {
     Absorbing,
     Squeezing,
 }
 
-// `pos` is the place in the block of 136 bytes that the next byte goes into, or comes from.
+// `pos` is the place in the block of 136 bytes that the next byte goes into, or comes from; the lanes are the only buffer.
 pub struct Sponge {
     pub(crate) state: KeccakState,
     pub(crate) mode: Mode,

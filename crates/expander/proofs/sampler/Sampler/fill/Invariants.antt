@@ -1,11 +1,6 @@
-use Rattle.std.proofs.Common.{◌≡◌, ℕ, take}
-use Rattle.expander.specs.Sampling.{Sampling}
-use Rattle.expander.specs.Streams.{drawn, after}
+use Rattle.std.proofs.Common.{take}
+use Rattle.expander.specs.Sampling.{Draws}
 use Rattle.expander.proofs.sampler.Sampler.fill.Given as goal
 
-abbrev pub invariant-loop-i : goal.invariant-loop-i
-invariant-loop-i g l =
-    let sampled = g.F.Field.sampled in
-    let gives = g.S.Stream.gives in
-    (f : ℕ → ℕ) (k : ℕ) → Sampling gives l.initial.self f k
-    → (take l.i l.out ≡ drawn sampled f k l.i) × Sampling gives l.self f (after sampled f k l.i)
+abbrev pub invariant-loop-x : goal.invariant-loop-x
+invariant-loop-x g l = Draws g.S.Stream.gives g.F.Field.sampled l.initial.self l.x-index (take l.x-index l.out) l.self

@@ -1,7 +1,8 @@
-use Rattle.std.proofs.lemmas.Nat.{and_mask}
+use Rattle.std.proofs.Common.{◌≡◌, ◌+◌, ◌*◌, ◌/◌, ◌%◌, ap, ◌∙◌, arith}
 use Rattle.sponge.specs.Shake.{byte_at}
 use Rattle.sponge.proofs.state.KeccakState.byte.Goals as goal
 
 pub returns : goal.returns
-unfolding byte_at
-returns c = and_mask _ 8
+returns c =
+    let at : 8 * (c.args.at / 8) + c.args.at % 8 ≡ c.args.at = omega arith in
+    c.lane.ensures (c.args.at % 8) (omega arith) ∙ ap (byte_at c.args.self.now.lanes) at

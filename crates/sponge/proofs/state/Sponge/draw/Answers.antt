@@ -1,48 +1,40 @@
-use Rattle.std.proofs.Common.{◌≡◌, ℕ, ◌+◌, ◌-◌, ◌<◌, List, length, get_or, ap, ◌∙◌, subst, inl, inr, arith}
-use Rattle.std.proofs.lemmas.List.FromFn.{fill_by_all}
-use Rattle.std.proofs.lemmas.Bool.{cases_lt}
+use Rattle.std.proofs.Common.{rules, ◌≡◌, ℕ, ◌+◌, ◌-◌, ◌≤◌, List, [], ◌∷◌, ◌++◌, length, take, drop, sym, ap, ◌∙◌, subst, arith, length-append, length-set}
+use borrow.Rule.Slice.PartMut.{put_mid, post_of}
+use Rattle.std.proofs.Math.Seq.{take-append-add}
+use Rattle.std.proofs.lemmas.List.{length-take-le, take-append-le, take_at, take_more_set}
 use Rattle.sponge.specs.declared.state.Sponge.{Sponge}
-use Rattle.sponge.specs.Shake.{shake_byte, shake}
-use Rattle.sponge.specs.Sponges.{Turned}
-use Rattle.sponge.specs.Steps.{Gives}
+use Rattle.sponge.specs.Sponges.{Gives}
+use Rattle.sponge.proofs.Steps.{gives_none, gives_join}
 use Rattle.sponge.proofs.state.Sponge.draw.Goals as goal
 
-further : (s : Sponge) (m : List ℕ) (k i n : ℕ) (was out : List ℕ) → ((j : ℕ) → j < i → get_or was j 0 ≡ shake_byte m (k + j)) → Gives m (k + i) i n was out × Turned s m (k + i + n) → ((j : ℕ) → j < i + n → get_or out j 0 ≡ shake_byte m (k + j)) × Turned s m (k + (i + n))
-further s m k i n was out before gives =
-    let sum : k + i + n ≡ k + (i + n) = omega arith in (
-      λ j h.
-          elim (cases_lt j i) [
-            | inl lt ↦ gives.0.0 j lt ∙ before j lt
-            | inr ge ↦
-                let at : j ≡ i + (j - i) = omega arith in
-                let far : k + i + (j - i) ≡ k + j = omega arith in
-                ap (λ p. get_or out p 0) at ∙ gives.0.1 (j - i) (omega arith) ∙ ap (shake_byte m) far
-          ],
-      subst (Turned s m) sum gives.1,
+-- n bytes more are given, which are written from place i on
+further : (s t u : Sponge) (i k n : ℕ) (out ys bs : List ℕ) → n ≤ length ys → take n ys ≡ bs → Gives t n bs u → (i ≤ length out) × Gives s i (take i out) t
+    → (i + n ≤ length (put_mid i k out ys)) × Gives s (i + n) (take (i + n) (put_mid i k out ys)) u
+further s t u i k n out ys bs enough are more so =
+    let front : length (take i out) ≡ i = length-take-le i out so.0 in
+    let back = ys ++ post_of i k out in
+    let written : take (i + n) (put_mid i k out ys) ≡ take i out ++ bs =
+    ap (λ j. take (j + n) (put_mid i k out ys)) (sym front)
+    ∙ take-append-add (take i out) back n
+    ∙ ap (λ l. take i out ++ l) (take-append-le n ys (post_of i k out) enough ∙ are) in (
+      omega (arith, length-append (take i out) back, length-append ys (post_of i k out)),
+      subst (λ l. Gives s (i + n) l u) (sym written) (gives_join s t u i n (take i out) bs so.1 more),
     )
 
-pub loop-i-preserved-then-out-i-ge8 : goal.loop-i-preserved-then-out-i-ge8
-loop-i-preserved-then-out-i-ge8 c = (
-  omega arith,
-  λ m k a.
-      let inv = c.loop-i.invariant.1 m k a in
-      further c.get_lane.new.self m k c.loop-i.i 8 c.loop-i.out c.get_lane.new.out inv.0 (c.get_lane.ensures m (k + c.loop-i.i) inv.1),
-)
+pub loop-given-init : goal.loop-given-init
+loop-given-init c = (omega arith, gives_none c.args.self.now)
 
-pub loop-i-preserved : goal.loop-i-preserved
-loop-i-preserved c = (
-  omega arith,
-  λ m k a.
-      let inv = c.loop-i.invariant.1 m k a in
-      further c.get_byte.new.self m k c.loop-i.i 1 c.loop-i.out c.get_byte.new.out inv.0 (c.get_byte.ensures m (k + c.loop-i.i) inv.1),
-)
+pub loop-given-preserved-then-self-eq0 : goal.loop-given-preserved-then-self-eq0
+loop-given-preserved-then-self-eq0 c =
+    let lane = c.get_lane.result in
+    let long : length c.get_lane.result ≡ 8 = search rules in
+    further c.args.self.now c.loop-given.self c.get_lane.new.self c.loop-given.given _ 8 c.loop-given.out _ lane
+    (omega (arith, length-append lane (drop 8 (take (length c.loop-given.out - c.loop-given.given) (drop c.loop-given.given c.loop-given.out)))))
+    (take_at lane _ 8 long) c.get_lane.ensures c.loop-given.invariant
 
-pub returns : goal.returns
-unfolding shake
-returns c = λ m k a.
-    let inv = c.loop-i.invariant.1 m k a in
-    let all : c.loop-i.i ≡ length c.args.out.now = omega arith in
-    let long : length c.loop-i.out ≡ length c.args.out.now = omega arith in (
-      fill_by_all (λ j. shake_byte m (k + j)) c.loop-i.out (length c.args.out.now) 0 long (λ j h. inv.0 j (omega arith)),
-      subst (λ n. Turned c.loop-i.self m (k + n)) all inv.1,
-    )
+pub loop-given-preserved : goal.loop-given-preserved
+loop-given-preserved c =
+    let rest = c.in_default.rest in
+    let byte = c.get_byte.result in
+    further c.args.self.now c.loop-given.self c.get_byte.new.self c.loop-given.given _ 1 c.loop-given.out _ (byte ∷ [])
+    (omega (arith, length-set rest 0 byte)) (take_more_set rest 0 byte (omega arith)) c.get_byte.ensures c.loop-given.invariant

@@ -1,13 +1,9 @@
-use Rattle.std.proofs.Common.{◌≡◌, ℕ, ◌+◌, ◌-◌, ◌<◌, ◌≤◌, List, length, get_or}
-use Rattle.sponge.specs.Shake.{shake_byte}
-use Rattle.sponge.specs.Sponges.{Turned}
+use Rattle.std.proofs.Common.{◌-◌, ◌≤◌, length, take}
+use Rattle.sponge.specs.Sponges.{Gives}
 use Rattle.sponge.proofs.state.Sponge.draw.Given as goal
 
-abbrev pub invariant-loop-i : goal.invariant-loop-i
-invariant-loop-i l =
-    (l.i ≤ length l.out)
-    × ((m : List ℕ) (k : ℕ) → Turned l.initial.self m k →
-    ((j : ℕ) → j < l.i → get_or l.out j 0 ≡ shake_byte m (k + j)) × Turned l.self m (k + l.i))
+abbrev pub invariant-loop-given : goal.invariant-loop-given
+invariant-loop-given l = (l.given ≤ length l.out) × Gives l.initial.self l.given (take l.given l.out) l.self
 
-abbrev pub decreases-loop-i : goal.decreases-loop-i
-decreases-loop-i l = length l.initial.out - l.i
+abbrev pub decreases-loop-given : goal.decreases-loop-given
+decreases-loop-given l = length l.initial.out - l.given

@@ -1,10 +1,11 @@
-use Rattle.std.proofs.Common.{ℕ, ◌-◌, ◌≤◌, List, ◌++◌, length, take}
-use Rattle.sponge.specs.Sponges.{Absorbed}
+use Rattle.std.proofs.Common.{length}
+use Rattle.sponge.specs.declared.state.Sponge.{Sponge}
+use Rattle.sponge.specs.Sponges.{Takes}
 use Rattle.sponge.proofs.state.Sponge.feed.Given as goal
 
-abbrev pub invariant-loop-i : goal.invariant-loop-i
-invariant-loop-i l =
-    (l.i ≤ length l.bytes) × ((m : List ℕ) → Absorbed l.initial.self m → Absorbed l.self (m ++ take l.i l.bytes))
+-- what takes the rest from here on takes all of the bytes from the beginning on
+abbrev pub invariant-loop-byte : goal.invariant-loop-byte
+invariant-loop-byte l = (t : Sponge) → Takes l.self l.rest t → Takes l.initial.self l.bytes t
 
-abbrev pub decreases-loop-i : goal.decreases-loop-i
-decreases-loop-i l = length l.bytes - l.i
+abbrev pub decreases-loop-byte : goal.decreases-loop-byte
+decreases-loop-byte l = length l.rest
