@@ -1,5 +1,6 @@
 -- A sampler's steps: an element from the bytes at hand, or with the next block. Assumes nothing.
 use Rattle.std.proofs.Common.{◌≡◌, ℕ, ◌+◌, ◌-◌, ◌<◌, ◌≤◌, List, ◌++◌, length, get_or, take, drop, sym, ap, ◌∙◌, subst, inl, inr, arith}
+use borrow.Rule.Slice.PartMut.{put_mid, post_of}
 use Rattle.std.proofs.lemmas.List.{ext_get_or, get_or-take, get_or-drop, get_or_append_left, get_or-append_right, length-append, length-take-le, length-drop}
 use Rattle.std.proofs.lemmas.Bool.{cases_lt}
 use Rattle.algebra.specs.Fields.{Reads}
@@ -7,33 +8,51 @@ use Rattle.expander.specs.Sampling.{Stands}
 use Rattle.expander.specs.Streams.{window}
 use Rattle.expander.proofs.Windows.{length-window, window_at, window_is}
 
--- the bytes of a block from `at` on, and those that follow it up to sixteen
-abbrev pub sixteen : List ℕ → ℕ → List ℕ → List ℕ
-sixteen block at following = drop at block ++ take at following
+-- the sixteen bytes from place `at` on
+abbrev pub part : List ℕ → ℕ → List ℕ
+part pair at = take 16 (drop at pair)
 
-module _ (block following : List ℕ) (at : ℕ) (full : length block ≡ 16) (whole : length following ≡ 16) (place : at ≤ 16) where
-  pub length_sixteen : length (sixteen block at following) ≡ 16
-  length_sixteen =
-      omega (arith, length-append (drop at block) (take at following), length-drop at block, length-take-le at following (omega arith))
+pub length_part : (pair : List ℕ) (at : ℕ) → length pair ≡ 32 → at ≤ 16 → length (part pair at) ≡ 16
+length_part pair at full place = length-take-le 16 (drop at pair) (omega (arith, length-drop at pair))
 
-  pub sixteen_held : (j : ℕ) → j < 16 - at → get_or (sixteen block at following) j 0 ≡ get_or block (at + j) 0
-  sixteen_held j h =
-      get_or_append_left (drop at block) (take at following) 0 j (omega (arith, length-drop at block)) ∙ get_or-drop at block j 0
+pub part_at : (pair : List ℕ) (at j : ℕ) → j < 16 → get_or (part pair at) j 0 ≡ get_or pair (at + j) 0
+part_at pair at j h = get_or-take 16 (drop at pair) j 0 h ∙ get_or-drop at pair j 0
 
-  -- bytes held of a block and the block that follows it are the stream from k on
-  pub sixteen-window : (f : ℕ → ℕ) (k : ℕ) → ((j : ℕ) → j < 16 - at → get_or block (at + j) 0 ≡ f (k + j)) → following ≡ window f (k + (16 - at)) 16
-      → sixteen block at following ≡ window f k 16
-  sixteen-window f k held next =
-      window_is f k 16 (sixteen block at following) length_sixteen
-      (λ j h.
-      elim (cases_lt j (16 - at)) [
-        | inl lt ↦ sixteen_held j lt ∙ held j lt
-        | inr ge ↦
-            let e : k + (16 - at) + (j - (16 - at)) ≡ k + j = omega arith in
-            get_or-append_right (drop at block) (take at following) (16 - at) j 0 (omega (arith, length-drop at block)) ge
-            ∙ get_or-take at following (j - (16 - at)) 0 (omega arith) ∙ ap (λ (l : List ℕ). get_or l (j - (16 - at)) 0) next
-            ∙ window_at f (k + (16 - at)) 16 (j - (16 - at)) (omega arith) ∙ ap f e
-      ])
+-- a list with k of its members from place a on replaced
+module _ (a k : ℕ) (xs ys : List ℕ) where
+  pub put-before : (i : ℕ) → a ≤ length xs → i < a → get_or (put_mid a k xs ys) i 0 ≡ get_or xs i 0
+  put-before i within h =
+      let l = length-take-le a xs within in
+      get_or_append_left (take a xs) (ys ++ post_of a k xs) 0 i (omega arith) ∙ get_or-take a xs i 0 h
+
+  pub put_inside : (i : ℕ) → a ≤ length xs → a ≤ i → i < a + length ys → get_or (put_mid a k xs ys) i 0 ≡ get_or ys (i - a) 0
+  put_inside i within low high =
+      get_or-append_right (take a xs) (ys ++ post_of a k xs) a i 0 (length-take-le a xs within) low
+      ∙ get_or_append_left ys (post_of a k xs) 0 (i - a) (omega arith)
+
+  pub length-put : a + k ≤ length xs → length ys ≡ k → length (put_mid a k xs ys) ≡ length xs
+  length-put within long =
+      let l : length (take a xs) ≡ a = length-take-le a xs (omega arith) in
+      let d : length (drop a xs) ≡ length xs - a = length-drop a xs in
+      let e : length (post_of a k xs) ≡ length xs - a - k = length-drop k (drop a xs) ∙ ap (λ (n : ℕ). n - k) d in
+      omega (arith, length-append (take a xs) (ys ++ post_of a k xs), length-append ys (post_of a k xs))
+
+-- bytes held before place 16 and the block that follows them are the stream from k on
+pub part-window : (pair block : List ℕ) (at : ℕ) (f : ℕ → ℕ) (k : ℕ) → length pair ≡ 32 → at ≤ 16
+    → ((j : ℕ) → j < 16 - at → get_or pair (at + j) 0 ≡ f (k + j)) → block ≡ window f (k + (16 - at)) 16
+    → part (put_mid 16 16 pair block) at ≡ window f k 16
+part-window pair block at f k full place held next =
+    let long : length block ≡ 16 = ap length next ∙ length-window f (k + (16 - at)) 16 in
+    window_is f k 16 (part (put_mid 16 16 pair block) at) (length_part (put_mid 16 16 pair block) at (length-put 16 16 pair block (omega arith) long ∙ full) place)
+    (λ j h.
+    part_at (put_mid 16 16 pair block) at j h
+    ∙ elim (cases_lt (at + j) 16) [
+      | inl lt ↦ put-before 16 16 pair block (at + j) (omega arith) lt ∙ held j (omega arith)
+      | inr ge ↦
+          let e : k + (16 - at) + (at + j - 16) ≡ k + j = omega arith in
+          put_inside 16 16 pair block (at + j) (omega arith) ge (omega arith) ∙ ap (λ (l : List ℕ). get_or l (at + j - 16) 0) next
+          ∙ window_at f (k + (16 - at)) 16 (at + j - 16) (omega arith) ∙ ap f e
+    ])
 
 module _ {F : Type 0} {sampled : List ℕ → F × ℕ} (reads : Reads sampled) where
   -- two sixteens that agree as far as a sample of the first reads are sampled to the same
@@ -48,68 +67,69 @@ module _ {F : Type 0} {sampled : List ℕ → F × ℕ} (reads : Reads sampled) 
       (ext_get_or 0 (take m xs) (take m ys) (tx ∙ sym ty)
       (λ j h. get_or-take m xs j 0 (omega arith) ∙ at j (omega arith) ∙ sym (get_or-take m ys j 0 (omega arith))))
 
-  -- a sample x that the bytes held suffice for is that of the stream
-  pub sample-held : (block following : List ℕ) (at : ℕ) (f : ℕ → ℕ) (k : ℕ) (x : F × ℕ) → length block ≡ 16 → length following ≡ 16 → at ≤ 16
-      → ((j : ℕ) → j < 16 - at → get_or block (at + j) 0 ≡ f (k + j)) → x ≡ sampled (sixteen block at following) → at + x.1 ≤ 16
-      → x ≡ sampled (window f k 16)
-  sample-held block following at f k x full whole place held e enough =
-      let used : x.1 ≡ (sampled (sixteen block at following)).1 = ap (λ (p : F × ℕ). p.1) e in
-      e ∙ same_sample (16 - at) (sixteen block at following) (window f k 16) (length_sixteen block following at full whole place) (length-window f k 16) (omega arith)
-      (λ j h. sixteen_held block following at full whole place j h ∙ held j h ∙ sym (window_at f k 16 j (omega arith)))
+  -- a sample x that the bytes before place 16 suffice for is that of the stream
+  pub sample-held : (pair : List ℕ) (at : ℕ) (f : ℕ → ℕ) (k : ℕ) (x : F × ℕ) → length pair ≡ 32 → at ≤ 16
+      → ((j : ℕ) → j < 16 - at → get_or pair (at + j) 0 ≡ f (k + j)) → x ≡ sampled (part pair at) → at + x.1 ≤ 16 → x ≡ sampled (window f k 16)
+  sample-held pair at f k x full place held e enough =
+      let used : x.1 ≡ (sampled (part pair at)).1 = ap (λ (p : F × ℕ). p.1) e in
+      e ∙ same_sample (16 - at) (part pair at) (window f k 16) (length_part pair at full place) (length-window f k 16) (omega arith)
+      (λ j h. part_at pair at j (omega arith) ∙ held j h ∙ sym (window_at f k 16 j (omega arith)))
 
-  -- a sample x that wants more than they are still does with other bytes after them, where it is y
-  pub sample_further : (block first second : List ℕ) (at : ℕ) (x y : F × ℕ) → length block ≡ 16 → length first ≡ 16 → length second ≡ 16 → at ≤ 16
-      → x ≡ sampled (sixteen block at first) → y ≡ sampled (sixteen block at second) → 16 < at + x.1 → 16 < at + y.1
-  sample_further block first second at x y full one two place ex ey more =
-      let ux : x.1 ≡ (sampled (sixteen block at first)).1 = ap (λ (p : F × ℕ). p.1) ex in
-      let uy : y.1 ≡ (sampled (sixteen block at second)).1 = ap (λ (p : F × ℕ). p.1) ey in
+  -- a sample x that wants more than they are still does with the block after them, where it is y
+  pub sample_further : (pair block : List ℕ) (at : ℕ) (x y : F × ℕ) → length pair ≡ 32 → length block ≡ 16 → at ≤ 16
+      → x ≡ sampled (part pair at) → y ≡ sampled (part (put_mid 16 16 pair block) at) → 16 < at + x.1 → 16 < at + y.1
+  sample_further pair block at x y full long place ex ey more =
+      let both = put_mid 16 16 pair block in
+      let ux : x.1 ≡ (sampled (part pair at)).1 = ap (λ (p : F × ℕ). p.1) ex in
+      let uy : y.1 ≡ (sampled (part (put_mid 16 16 pair block) at)).1 = ap (λ (p : F × ℕ). p.1) ey in
       elim (cases_lt 16 (at + y.1)) [
         | inl lt ↦ lt
         | inr ge ↦
-            let same = same_sample (16 - at) (sixteen block at second) (sixteen block at first)
-            (length_sixteen block second at full two place) (length_sixteen block first at full one place) (omega arith)
-            (λ j h. sixteen_held block second at full two place j h ∙ sym (sixteen_held block first at full one place j h)) in
-            let used : (sampled (sixteen block at second)).1 ≡ (sampled (sixteen block at first)).1 = ap (λ (p : F × ℕ). p.1) same in
+            let same = same_sample (16 - at) (part both at) (part pair at)
+            (length_part both at (length-put 16 16 pair block (omega arith) long ∙ full) place) (length_part pair at full place) (omega arith)
+            (λ j h. part_at both at j (omega arith) ∙ put-before 16 16 pair block (at + j) (omega arith) (omega arith) ∙ sym (part_at pair at j (omega arith))) in
+            let used : (sampled (part (put_mid 16 16 pair block) at)).1 ≡ (sampled (part pair at)).1 = ap (λ (p : F × ℕ). p.1) same in
             absurd (omega arith)
       ]
 
   -- and it wants sixteen bytes at most
-  pub sample_most : (block following : List ℕ) (at : ℕ) (y : F × ℕ) → length block ≡ 16 → length following ≡ 16 → at ≤ 16
-      → y ≡ sampled (sixteen block at following) → y.1 ≤ 16
-  sample_most block following at y full whole place e =
-      let most = reads.most (sixteen block at following) (length_sixteen block following at full whole place) in
-      let used : y.1 ≡ (sampled (sixteen block at following)).1 = ap (λ (p : F × ℕ). p.1) e in
+  pub sample_most : (pair : List ℕ) (at : ℕ) (y : F × ℕ) → length pair ≡ 32 → at ≤ 16 → y ≡ sampled (part pair at) → y.1 ≤ 16
+  sample_most pair at y full place e =
+      let most = reads.most (part pair at) (length_part pair at full place) in
+      let used : y.1 ≡ (sampled (part pair at)).1 = ap (λ (p : F × ℕ). p.1) e in
       omega arith
 
-module _ {S : Type 0} (gives : S → (ℕ → ℕ) → ℕ → Type 0) (block : List ℕ) (at : ℕ) (f : ℕ → ℕ) (k n m : ℕ) where
+module _ {S : Type 0} (gives : S → (ℕ → ℕ) → ℕ → Type 0) (pair : List ℕ) (at : ℕ) (f : ℕ → ℕ) (k n m : ℕ) where
   -- the place goes m bytes on among those that are held; m is n as the code has it
-  pub goes_on : (source : S) → Stands gives source block at f k → at + m ≤ 16 → m ≡ n → Stands gives source block (at + m) f (k + n)
+  pub goes_on : (source : S) → Stands gives source pair at f k → at + m ≤ 16 → m ≡ n → Stands gives source pair (at + m) f (k + n)
   goes_on source is within same = record {
     held = λ j h.
         let i : at + m + j ≡ at + (m + j) = omega arith in
         let e : k + (m + j) ≡ k + n + j = omega arith in
-        ap (λ (l : ℕ). get_or block l 0) i ∙ is.held (m + j) (omega arith) ∙ ap f e;
+        ap (λ (l : ℕ). get_or pair l 0) i ∙ is.held (m + j) (omega arith) ∙ ap f e;
     rest =
         let e : k + (16 - at) ≡ k + n + (16 - (at + m)) = omega arith in
         subst (gives source f) e is.rest;
   }
 
-  -- the place goes m bytes on into the block, which is the next
-  pub goes_over : (source : S) → gives source f (k + (16 - at) + 16) → block ≡ window f (k + (16 - at)) 16 → at ≤ 16 → 16 ≤ at + m → at + m ≤ 32 → m ≡ n
-      → Stands gives source block (at + m - 16) f (k + n)
-  goes_over source rest next place over within same = record {
+  -- the place goes m bytes on into the next block, which is then the first half of the pair
+  pub goes_over : (source : S) (block : List ℕ) → gives source f (k + (16 - at) + 16) → block ≡ window f (k + (16 - at)) 16
+      → ((j : ℕ) → j < 16 → get_or pair j 0 ≡ get_or block j 0) → at ≤ 16 → 16 ≤ at + m → at + m ≤ 32 → m ≡ n
+      → Stands gives source pair (at + m - 16) f (k + n)
+  goes_over source block rest next first place over within same = record {
     held = λ j h.
         let e : k + (16 - at) + (at + m - 16 + j) ≡ k + n + j = omega arith in
-        ap (λ (l : List ℕ). get_or l (at + m - 16 + j) 0) next ∙ window_at f (k + (16 - at)) 16 (at + m - 16 + j) (omega arith) ∙ ap f e;
+        first (at + m - 16 + j) (omega arith) ∙ ap (λ (l : List ℕ). get_or l (at + m - 16 + j) 0) next
+        ∙ window_at f (k + (16 - at)) 16 (at + m - 16 + j) (omega arith) ∙ ap f e;
     rest =
         let e : k + (16 - at) + 16 ≡ k + n + (16 - (at + m - 16)) = omega arith in
         subst (gives source f) e rest;
   }
 
 -- with nothing held, the source is where the sampler is
-pub stands_first : {S : Type 0} (gives : S → (ℕ → ℕ) → ℕ → Type 0) (source : S) (block : List ℕ) (f : ℕ → ℕ) (k : ℕ)
-    → gives source f k → Stands gives source block 16 f k
-stands_first gives source block f k is = record {
+pub stands_first : {S : Type 0} (gives : S → (ℕ → ℕ) → ℕ → Type 0) (source : S) (pair : List ℕ) (f : ℕ → ℕ) (k : ℕ)
+    → gives source f k → Stands gives source pair 16 f k
+stands_first gives source pair f k is = record {
   held = λ j h. absurd (omega arith);
   rest = let e : k ≡ k + (16 - 16) = omega arith in subst (gives source f) e is;
 }

@@ -4,14 +4,14 @@ use Rattle.expander.specs.declared.sampler.Sampler.{Sampler}
 use Rattle.expander.specs.Streams.{drawn, after}
 
 module _ {S : Type 0} (gives : S → (ℕ → ℕ) → ℕ → Type 0) where
-  -- the bytes of the block from `at` on are those of f from k on, and the source goes on after them
-  pub record Stands (source : S) (block : List ℕ) (at : ℕ) (f : ℕ → ℕ) (k : ℕ) : Type 0 where
-    pub held : (j : ℕ) → j < 16 - at → slice_index block (at + j) ≡ f (k + j)
+  -- the bytes of the pair from `at` up to place 16 are those of f from k on, and the source goes on after them
+  pub record Stands (source : S) (pair : List ℕ) (at : ℕ) (f : ℕ → ℕ) (k : ℕ) : Type 0 where
+    pub held : (j : ℕ) → j < 16 - at → slice_index pair (at + j) ≡ f (k + j)
     pub rest : gives source f (k + (16 - at))
 
   -- the sampler takes next the byte k of f
   unfoldable pub Sampling : Sampler S → (ℕ → ℕ) → ℕ → Type 0
-  Sampling s f k = Stands s.source s.block s.at f k
+  Sampling s f k = Stands s.source s.pair s.at f k
 
   -- s draws the elements as the next n of its stream, and is t then
   abbrev pub Draws : {F : Type 0} → (List ℕ → F × ℕ) → Sampler S → ℕ → List F → Sampler S → Type 0

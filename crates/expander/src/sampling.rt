@@ -1,5 +1,5 @@
 // Elements sampled from a source one after the other. The source is asked for a block only when an element needs bytes of it.
-ghost use Rattle.std.specs.Prelude.{◌≡◌, ℕ, ◌+◌, ◌++◌, length, take, drop};
+ghost use Rattle.std.specs.Prelude.{◌≡◌, ℕ, ◌+◌, ◌≤◌, length, take, drop};
 ghost use Rattle.expander.specs.Sampling.{Sampling, Draws};
 ghost use Rattle.expander.specs.Streams.{window, drawn, seed_stream, tagged_stream};
 ghost use Rattle.std.specs.List.{flat_map};
@@ -12,6 +12,14 @@ use algebra::Field;
 
 const BLOCK: usize = 16;
 
+// The sixteen bytes from place `at` on.
+fn sixteen(pair: &[u8; 32], at: usize) -> &[u8; 16]
+    requires { at ≤ 16 }
+    ensures { result.now ≡ take 16 (drop at pair.now) }
+{
+    pair[at..].first_chunk().unwrap()
+}
+
 impl<S: Stream> Sampler<S> {
     // A sampler of what the source gives from here on.
     pub fn new(source: S) -> Sampler<S>
@@ -19,34 +27,24 @@ impl<S: Stream> Sampler<S> {
     {
         Sampler {
             source,
-            block: [0; BLOCK],
+            pair: [0; 32],
             at: BLOCK,
         }
     }
 
-    // The next sixteen bytes, where `following` are those after the block.
-    fn sixteen(&self, following: &[u8; 16]) -> [u8; 16]
-        ensures { result ≡ drop self.now.at self.now.block ++ take self.now.at following.now }
-    {
-        let mut out = [0; BLOCK];
-        let (held, more) = out.split_at_mut(BLOCK - self.at);
-        held.copy_from_slice(&self.block[self.at..]);
-        more.copy_from_slice(&following[..self.at]);
-        out
-    }
-
-    // The next element. It is sampled first as if zeros followed the block, and again with the bytes that do where it uses any of them.
+    // The next element.
     pub fn next<F: Field>(&mut self) -> F
         ensures { (f : ℕ → ℕ) (k : ℕ) → Sampling S.Stream.gives self.old f k → (result ≡ (F.Field.sampled (window f k 16)).0) × Sampling S.Stream.gives self.new f (k + (F.Field.sampled (window f k 16)).1) }
     {
-        let (x, used) = F::sample(&self.sixteen(&[0; BLOCK]));
+        let (x, used) = F::sample(sixteen(&self.pair, self.at));
         if self.at + used <= BLOCK {
             self.at += used;
             return x;
         }
         let block = self.source.next_block();
-        let (y, taken) = F::sample(&self.sixteen(&block));
-        self.block = block;
+        self.pair[BLOCK..2 * BLOCK].copy_from_slice(&block);
+        let (y, taken) = F::sample(sixteen(&self.pair, self.at));
+        self.pair[0..BLOCK].copy_from_slice(&block);
         self.at = self.at + taken - BLOCK;
         y
     }
