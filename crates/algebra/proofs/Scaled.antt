@@ -1,6 +1,6 @@
 -- Loops that change a list in place: a factor times each element added to the sum at its place, and zero at every place. Assumes nothing.
-use Rattle.std.proofs.Common.{◌≡◌, ℕ, zero, suc, ◌+◌, ◌<◌, List, [], ◌∷◌, ◌++◌, length, get_or, take, drop, set, replicate, sym, refl, ap, ◌∙◌, ap₂, add-one, arith}
-use Rattle.std.proofs.lemmas.List.{get_or_read, drop_more, append_assoc, set_at, length-replicate, replicate_more}
+use Rattle.std.proofs.Common.{◌≡◌, ℕ, zero, suc, ◌+◌, ◌<◌, List, [], ◌∷◌, ◌++◌, length, get_or, take, drop, set, replicate, refl, ap, add-one, arith}
+use Rattle.std.proofs.lemmas.List.{drop_more, append_assoc, set_at, length-replicate, replicate_more}
 use Rattle.algebra.specs.Fields.{Ops}
 use Rattle.algebra.specs.Sums.{combined}
 

@@ -1,6 +1,6 @@
 -- The integers modulo 251 keep the laws. Assumes nothing.
-use Rattle.std.specs.Prelude.{◌≡◌, ℕ, zero, suc, ◌+◌, ◌*◌, ◌/◌, ◌%◌, ◌^◌, ◌<◌, ◌≤◌, Bool, true, false, List, [], ◌∷◌, length, take, ◌≢◌, nat_lt, slice_index, refl}
-use Rattle.std.proofs.Common.{sym, ap, ap₂, subst, ◌∙◌, mod-eq_of_lt, mul_comm, mul_assoc, mul-add, add-mul, add_comm, div-add-mod', mul-one, add-one, arith, lt-ltb, le-ltb, lit≤}
+use Rattle.std.specs.Prelude.{◌≡◌, ℕ, zero, suc, ◌+◌, ◌*◌, ◌/◌, ◌%◌, ◌^◌, ◌<◌, ◌≤◌, Bool, true, false, List, [], ◌∷◌, length, take, ◌≢◌, nat_lt, refl}
+use Rattle.std.proofs.Common.{sym, ap, subst, ◌∙◌, mod-eq_of_lt, mul_comm, mul_assoc, mul-add, add-mul, add_comm, div-add-mod', mul-one, arith, lit≤}
 use Rattle.std.proofs.Math.Nat.{mod-add-mod, add-mod-mod, mul-add-mod_self_right}
 use Rattle.std.proofs.Math.Bridge.{le_prop}
 use Rattle.theory.proofs.Sweeps.{sweep}
