@@ -53,6 +53,6 @@ pub decoded_turn : (pairs : List (List ℕ)) (i : ℕ) (xs ys : List ℕ) (b : �
     → byte_of (slice_index (get_or pairs i []) 0) (slice_index (get_or pairs i []) 1) ≡ Some b → ys ≡ xs ++ (b ∷ [])
     → before xs (decoded_pairs (drop i pairs)) ≡ before ys (decoded_pairs (drop (i + 1) pairs))
 decoded_turn pairs i xs ys b within e pushed =
-    let rest = decoded_pairs (drop (i + 1) pairs) in
-    ap (λ (ps : List (List ℕ)). before xs (decoded_pairs ps)) (drop_more pairs i [] within)
-    ∙ ap (λ (o : Option ℕ). before xs (cons o rest)) e ∙ cons-before xs b rest ∙ ap (λ (zs : List ℕ). before zs rest) (sym pushed)
+    let split = drop_more pairs i [] within in
+    let joined = cons-before xs b (decoded_pairs (drop (i + 1) pairs)) in
+    cc

@@ -1,6 +1,7 @@
-use Rattle.std.proofs.Common.{◌≡◌, ℕ, ◌+◌, ◌*◌, ◌/◌, List, length, sym, ap₂, ◌∙◌, arith}
+use Rattle.std.proofs.Common.{◌≡◌, ◌+◌, ◌*◌, ◌/◌, length, sym, ◌∙◌, arith}
 use Rattle.std.proofs.lemmas.Bool.Decides.{nat_tests}
-use Rattle.hexadecimal.proofs.Texts.{before, before_none, decoded_pairs, decoded_turn, decoded_odd, decoded_by_pairs}
+use Rattle.hexadecimal.specs.Digits.{decoded}
+use Rattle.hexadecimal.proofs.Texts.{before_none, decoded_turn, decoded_odd, decoded_by_pairs}
 use Rattle.hexadecimal.proofs.decode.Goals as goal
 
 pub returns-then-not-is_empty : goal.returns-then-not-is_empty
@@ -11,8 +12,9 @@ returns-then-not-is_empty c =
 pub loop-high-init : goal.loop-high-init
 loop-high-init c =
     let even : length c.args.text.now ≡ 2 * (length c.args.text.now / 2) = grind (arith, nat_tests) in
-    decoded_by_pairs c.args.text.now _ even ∙ sym (before_none _)
-    ∙ ap₂ (λ (xs : List ℕ) (ps : List (List ℕ)). before xs (decoded_pairs ps)) (sym c.new-bytes.ensures.items) (sym c.as_chunks.ensures.front)
+    let read = decoded_by_pairs c.args.text.now _ even in
+    let none = before_none (decoded c.args.text.now) in
+    cc
 
 pub loop-high-preserved : goal.loop-high-preserved
 loop-high-preserved c =

@@ -1,6 +1,6 @@
 use Rattle.std.proofs.Common.{◌<◌, ◌≤◌, refl, rules, tests, arith}
 use Rattle.std.proofs.lemmas.Iterator.{IsFirst-from_position, YieldsList-from_slice}
-use Rattle.algebra.specs.Primes.{sample_found, sample_none}
+use Rattle.algebra.proofs.Samples.{sample_found, sample_none}
 use Rattle.algebra.proofs.prime.Mod251Field.sample.Goals as goal
 
 pub returns-in-Some : goal.returns-in-Some
