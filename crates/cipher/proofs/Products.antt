@@ -1,6 +1,6 @@
 -- Products by x and by x + 1 in GF(256), and sums of bytes. Assumes nothing.
-use Rattle.std.proofs.Common.{◌≡◌, ℕ, ◌<◌, List, get_or, sym, ap, ◌∙◌, ap₂, one-mul, zero-mul}
-use lib.Bits.{bit_xor, xor_zero_l, xor_zero_r, xor_comm, xor_assoc}
+use Rattle.std.proofs.Common.{◌≡◌, ℕ, ◌<◌, List, get_or, sym, ap, ◌∙◌, ap₂, one-mul, zero-mul, arith}
+use lib.Bits.{xor_zero_l, xor_zero_r, xor_comm, xor_assoc}
 use Rattle.algebra.specs.Gf256.{double, product_of, times}
 use Rattle.algebra.specs.Products.{double_linear}
 use Rattle.cipher.specs.Word.{◌⊕◌, add_words, double_word, rot_word, mix_column}
@@ -16,13 +16,11 @@ times_three b = simp (zero-mul, one-mul, xor_zero_l, xor_zero_r)
 
 -- the last of four to the front
 turn : (a b c d : ℕ) → a ⊕ b ⊕ c ⊕ d ≡ d ⊕ a ⊕ b ⊕ c
-turn a b c d = xor_comm (a ⊕ b ⊕ c) d ∙ sym (xor_assoc d (a ⊕ b) c) ∙ ap (λ (x : ℕ). x ⊕ c) (sym (xor_assoc d a b))
+turn a b c d = grind (arith, xor_comm, xor_assoc)
 
 -- one row of the product with the matrix, from its sums of pairs: p and q double a0 and a1
 row : (p q a1 a2 a3 : ℕ) → p ⊕ q ⊕ a1 ⊕ (a2 ⊕ a3) ≡ p ⊕ (a1 ⊕ q) ⊕ a2 ⊕ a3
-row p q a1 a2 a3 =
-    sym (xor_assoc (p ⊕ q ⊕ a1) a2 a3)
-    ∙ ap (λ (x : ℕ). x ⊕ a2 ⊕ a3) (xor_assoc p q a1 ∙ ap (bit_xor p) (xor_comm q a1))
+row p q a1 a2 a3 = grind (arith, xor_comm, xor_assoc)
 
 -- the row of the product whose first byte is a0, computed by pairs
 row_0 : (a0 a1 a2 a3 : ℕ) → a0 < 256 → a1 < 256 → double (a0 ⊕ a1) ⊕ a1 ⊕ (a2 ⊕ a3) ≡ times 2 a0 ⊕ times 3 a1 ⊕ a2 ⊕ a3

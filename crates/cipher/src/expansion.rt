@@ -20,7 +20,7 @@ fn powers() -> &'static [u8; 10]
 // The key of the next round, whose constant is the power of x: each of its words is the sum of the one before it and the one four before it, and
 // the one before the first goes through a change.
 fn next_key(key: &State, power: u8) -> State
-    ensures { (first : List ℕ) (r : ℕ) → r < 10 → key.now ≡ round_key (schedule_of first) r → power ≡ power_of_x r → result ≡ round_key (schedule_of first) (r + 1) }
+    ensures { (first : List ℕ) (r : ℕ) → let w = schedule_of first in r < 10 → key.now ≡ round_key w r → power ≡ power_of_x r → result ≡ round_key w (r + 1) }
 {
     let [a, b, c, d] = *key;
     let a = add(a, add(sub_word(rot_word(d)), [power, 0, 0, 0]));

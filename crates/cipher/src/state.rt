@@ -1,7 +1,6 @@
 // The steps of a round on the state, which is held by columns.
 ghost use Rattle.std.specs.Prelude.{◌≡◌, ℕ, List};
 ghost use Rattle.cipher.specs.Expansion.{words_of, bytes_of, round_key};
-ghost use Rattle.cipher.specs.Word.{mix_column as mix_column_of};
 ghost use Rattle.cipher.specs.Cipher.{sub_bytes, shift_rows, mix_columns, add_round_key};
 
 use crate::word::{Word, add, mix_column, sub_word};
@@ -42,11 +41,7 @@ pub(crate) fn sub_shift(s: &State) -> State
 pub(crate) fn mix_columns(s: &State) -> State
     ensures { result ≡ mix_columns s.now }
 {
-    s.map(
-        |column|
-            ensures { result ≡ mix_column_of column }
-        { mix_column(&column) },
-    )
+    s.each_ref().map(mix_column)
 }
 
 // AddRoundKey of the round that the key is for.
