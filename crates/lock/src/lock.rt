@@ -1,13 +1,15 @@
 // What code over any lock may use of it.
 ghost use Rattle.std.specs.Prelude.{◌≡◌, ℕ, true, List, length};
-ghost use Rattle.lock.specs.Instances.{Problem, Fits, given, listed};
-ghost use Rattle.lock.specs.Locks.{Forms, Parts, OnLines, Opens, Makes, Secret, sound};
+ghost use Rattle.lock.specs.Instances.{Problem, given, listed};
+ghost use Rattle.lock.specs.Locks.{Forms, Parts, OnLines, Opens, Makes, sound};
+ghost use Rattle.refusal.specs.Rows.{Tells, row};
 
 use crate::instance::Instance;
 use crate::profile::Shape;
 use algebra::Field;
+use refusal::Refusal;
 
-// What a secret must solve. A lock refuses nothing and changes nothing but what it is lent to write to.
+// What a secret must solve. A lock changes nothing but what it is lent to write to.
 pub trait Lock<F: Field> {
     ghost forms: { Forms F };
 
@@ -38,7 +40,6 @@ pub trait Lock<F: Field> {
     // The parts at a level s and unknowns u, from which the equations are worked out.
     fn parts(problem: &Instance<F>, s: F, u: &[F], out: &mut [F])
         requires sound { sound forms problem.now.shape ≡ true }
-        requires fits { Fits (given problem.now) }
         requires unknowns { length u.now ≡ forms.unknowns problem.now.shape }
         requires room { length out.old ≡ working.count problem.now.shape }
         ensures { out.new ≡ working.all (given problem.now) s u.now };
@@ -61,12 +62,12 @@ pub trait Lock<F: Field> {
             → zeros.now ≡ working.all p F.Field.ops.zero v
             → out.new ≡ listed (λ j. forms.cross p j u v) 0 (forms.equations shape) };
 
-    // The unknowns that a word x stands for as a secret; false where x is not as the lock wants it.
-    fn secret(shape: Shape, x: &[F], u: &mut [F]) -> bool
+    // Writes the unknowns that a word x stands for as a secret. A word that is not as the lock wants it has none.
+    fn secret(shape: Shape, x: &[F], u: &mut [F]) -> Result<(), Refusal>
         requires sound { sound forms shape ≡ true }
         requires word { length x.now ≡ shape.m }
         requires room { length u.old ≡ forms.unknowns shape }
-        ensures { Secret forms shape x.now result u.new };
+        ensures { Tells (row (forms.wanted shape x.now) Refusal.NoSolution None) (λ _. u.new ≡ forms.secret shape x.now) result };
 
     ghost lines: { OnLines F.Field.ops forms };
 

@@ -11,6 +11,7 @@ use crate::walk::{blocks, per_block};
 use algebra::Field;
 use lock::word::fill_word;
 use lock::{Instance, Lock, Shape};
+use refusal::Refusal;
 
 pub struct Regular;
 
@@ -72,8 +73,11 @@ impl<F: Field> Lock<F> for Regular {
         blocks(&Crossing { one, zero }, side(shape), shape.w as usize, out);
     }
 
-    fn secret(shape: Shape, x: &[F], u: &mut [F]) -> bool {
+    fn secret(shape: Shape, x: &[F], u: &mut [F]) -> Result<(), Refusal> {
+        if !all_hot(x, side(shape), shape.w as usize) {
+            return Err(Refusal::NoSolution);
+        }
         u.copy_from_slice(&x[0..shape.k as usize]);
-        all_hot(x, side(shape), shape.w as usize)
+        Ok(())
     }
 }

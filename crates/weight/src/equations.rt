@@ -10,6 +10,7 @@ use crate::roots::{fill_roots, weight_of};
 use algebra::Field;
 use lock::word::fill_word;
 use lock::{Instance, Lock, Shape};
+use refusal::Refusal;
 
 // The lock of the words that have at most w elements other than zero.
 pub struct Weight;
@@ -64,14 +65,14 @@ impl<F: Field> Lock<F> for Weight {
         crossings(&ones[..m], &ones[m..], &zeros[..m], &zeros[m..], out);
     }
 
-    fn secret(shape: Shape, x: &[F], u: &mut [F]) -> bool {
+    fn secret(shape: Shape, x: &[F], u: &mut [F]) -> Result<(), Refusal> {
         if weight_of(x) != shape.w as usize {
-            return false;
+            return Err(Refusal::NoSolution);
         }
         let k = shape.k as usize;
         u[..k].copy_from_slice(&x[..k]);
         fill_roots(x, &mut u[k..]);
-        true
+        Ok(())
     }
 }
 
