@@ -12,12 +12,9 @@ impl Shape {
     pub fn ranged(self) -> bool
         ensures { result ≡ ranged_of self }
     {
-        2 <= self.m
-            && self.m <= 250
-            && 1 <= self.k
-            && self.k < self.m
-            && 1 <= self.w
-            && self.w <= self.m
+        (2..=250).contains(&self.m)
+            && (1..self.m).contains(&self.k)
+            && (1..=self.m).contains(&self.w)
     }
 
     // The numbers are those of a lock: in their ranges, with at most 256 unknowns, and as the lock wants them.
@@ -40,13 +37,10 @@ impl Profile {
     fn repeated(&self) -> bool
         ensures { result ≡ repeated_of self.now }
     {
-        1 <= self.a
-            && self.a <= 7
+        (1..=7).contains(&self.a)
             && self.b <= 5
-            && 1 <= self.rho
-            && self.rho <= 16
-            && 1 <= self.t
-            && self.t as usize <= self.a as usize * self.rounds()
+            && (1..=16).contains(&self.rho)
+            && (1..=self.a as usize * self.rounds()).contains(&(self.t as usize))
     }
 
     pub fn within<F: Field, L: Lock<F>>(&self) -> bool
