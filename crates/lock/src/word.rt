@@ -15,9 +15,9 @@ pub fn add_columns<F: Field>(matrix: &[F], factors: &[F], sums: &mut [F])
 {
     let rows = sums.len();
     let mut rest = matrix;
-    for c in 0..factors.len() {
+    for factor in factors {
         let (column, more) = rest.split_at(rows);
-        add_scaled(sums, factors[c], column);
+        add_scaled(sums, *factor, column);
         rest = more;
     }
 }
@@ -30,9 +30,8 @@ fn fill_bound<F: Field>(problem: &Instance<F>, s: F, free: &[F], out: &mut [F])
 {
     clear(out);
     add_columns(problem.matrix, free, out);
-    let target = problem.target;
-    for r in 0..out.len() {
-        out[r] = target[r].multiply(s).add(out[r].negate());
+    for (r, row) in out.iter_mut().enumerate() {
+        *row = problem.target[r].multiply(s).add(row.negate());
     }
 }
 
