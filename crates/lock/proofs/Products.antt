@@ -120,20 +120,20 @@ two-parts {X} front old back n l =
 
 module _ {F : Type 0} (o : Ops F) where
   -- the free elements, and then the others, are the word
-  pub word-parts : Ring o → (p : Problem F) (s : F) (u free out : List F) → free ≡ take p.shape.k u → p.shape.k ≤ length u → p.shape.k ≤ p.shape.m
-      → length out ≡ p.shape.m - p.shape.k → BoundPart o p s free out → free ++ out ≡ word o p s u
-  word-parts laws p s u free out ef hu km lo bound =
+  pub word-parts : Ring o → (p : Problem F) (s : F) (u front out : List F) → front ≡ take p.shape.k u → p.shape.k ≤ length u → p.shape.k < p.shape.m
+      → length out ≡ p.shape.m - p.shape.k → BoundPart o p s (take p.shape.k u) out → front ++ out ≡ word o p s u
+  word-parts laws p s u front out ef hu km lo bound =
       let k = p.shape.k in
-      let lf : length free ≡ k = ap length ef ∙ length-take-le k u hu in
-      word_from o p s u (free ++ out) (length-append free out ∙ omega arith) (λ i h.
+      let free = take k u in
+      let lf : length front ≡ k = ap length ef ∙ length-take-le k u hu in
+      word_from o p s u (front ++ out) (length-append front out ∙ omega arith) (λ i h.
       elim (cases_lt i k) [
         | inl lt ↦
-            get_or_append_left free out o.zero i (omega arith) ∙ ap (λ (l : List F). item o l i) ef ∙ get_or-take k u i o.zero lt
+            get_or_append_left front out o.zero i (omega arith) ∙ ap (λ (l : List F). item o l i) ef ∙ get_or-take k u i o.zero lt
             ∙ sym (entry_free o p i s u lt)
         | inr ge ↦
             let e : k + (i - k) ≡ i = omega arith in
-            get_or-append_right free out k i o.zero lf ge ∙ bound (i - k) (omega arith)
-            ∙ ap (minus o (o.times (item o p.target (i - k)) s))
-            (row_same laws p free u (i - k) (λ j hj. ap (λ (l : List F). item o l j) ef ∙ get_or-take k u j o.zero hj))
+            get_or-append_right front out k i o.zero lf ge ∙ bound (i - k) (omega arith)
+            ∙ ap (minus o (o.times (item o p.target (i - k)) s)) (row_same laws p free u (i - k) (λ j hj. get_or-take k u j o.zero hj))
             ∙ sym (entry_bound o p (i - k) s u) ∙ ap (λ (j : ℕ). entry o p j s u) e
       ])

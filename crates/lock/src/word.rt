@@ -43,7 +43,8 @@ pub fn fill_word<F: Field>(problem: &Instance<F>, s: F, u: &[F], x: &mut [F])
     ensures { x.new ≡ word F.Field.ops (given problem.now) s u.now }
 {
     let k = problem.shape.k as usize;
-    let free = &u[0..k];
-    x[0..k].copy_from_slice(free);
-    fill_bound(problem, s, free, &mut x[k..]);
+    let free = &u[..k];
+    let (front, back) = x.split_at_mut(k);
+    front.copy_from_slice(free);
+    fill_bound(problem, s, free, back);
 }
