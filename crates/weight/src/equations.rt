@@ -49,20 +49,22 @@ impl<F: Field> Lock<F> for Weight {
     }
 
     fn parts(problem: &Instance<F>, s: F, u: &[F], out: &mut [F]) {
-        let m = problem.shape.m as usize;
         let k = problem.shape.k as usize;
-        fill_locators(s, &u[k..], &mut out[m..]);
-        fill_word(problem, s, u, &mut out[..m]);
+        let (word, locators) = out.split_at_mut(problem.shape.m as usize);
+        fill_word(problem, s, u, word);
+        fill_locators(s, &u[k..], locators);
     }
 
     fn values(sound: &Sound<F, Self>, parts: &[F], out: &mut [F]) {
-        let m = sound.shape.m as usize;
-        products(&parts[..m], &parts[m..], out);
+        let (word, locators) = parts.split_at(sound.shape.m as usize);
+        products(word, locators, out);
     }
 
     fn crosses(sound: &Sound<F, Self>, ones: &[F], zeros: &[F], out: &mut [F]) {
         let m = sound.shape.m as usize;
-        crossings(&ones[..m], &ones[m..], &zeros[..m], &zeros[m..], out);
+        let (x, q) = ones.split_at(m);
+        let (y, r) = zeros.split_at(m);
+        crossings(x, q, y, r, out);
     }
 
     fn secret(sound: &Sound<F, Self>, x: &[F], u: &mut [F]) -> Result<(), Refusal> {
@@ -70,8 +72,9 @@ impl<F: Field> Lock<F> for Weight {
             return Err(Refusal::NoSolution);
         }
         let k = sound.shape.k as usize;
-        u[..k].copy_from_slice(&x[..k]);
-        fill_roots(x, &mut u[k..]);
+        let (free, coefficients) = u.split_at_mut(k);
+        free.copy_from_slice(&x[..k]);
+        fill_roots(x, coefficients);
         Ok(())
     }
 }
@@ -82,8 +85,8 @@ fn products<F: Field>(x: &[F], q: &[F], out: &mut [F])
     requires locators { length q.now ≡ length out.old }
     ensures { out.new ≡ products_of F.Field.ops x.now q.now (length out.old) }
 {
-    for j in 0..out.len() {
-        out[j] = x[j].multiply(q[j]);
+    for (j, product) in out.iter_mut().enumerate() {
+        *product = x[j].multiply(q[j]);
     }
 }
 
@@ -95,7 +98,7 @@ fn crossings<F: Field>(x: &[F], q: &[F], y: &[F], r: &[F], out: &mut [F])
     requires theirs { length r.now ≡ length out.old }
     ensures { out.new ≡ crossings_of F.Field.ops x.now q.now y.now r.now (length out.old) }
 {
-    for j in 0..out.len() {
-        out[j] = x[j].multiply(r[j]).add(y[j].multiply(q[j]));
+    for (j, crossing) in out.iter_mut().enumerate() {
+        *crossing = x[j].multiply(r[j]).add(y[j].multiply(q[j]));
     }
 }
