@@ -1,7 +1,6 @@
 -- The turns of the loops that multiply by the matrix. Assumes nothing.
 use Rattle.std.proofs.Common.{◌≡◌, ℕ, suc, ◌+◌, ◌-◌, ◌*◌, ◌<◌, ◌≤◌, List, [], ◌∷◌, ◌++◌, length, get_or, take, drop, sym, refl, ap, ◌∙◌, ap₂, inl, inr, mul-le-mul_right, suc-mul, add-one, arith}
-use borrow.Rule.Slice.PartMut.{put_mid}
-use Rattle.std.proofs.lemmas.List.{get_or-take, get_or-drop, get_or_read, get_or_append_left, get_or-append_right, drop-drop, drop_all, drop_at, take_at, append-nil, length-append, length-drop, length-take-le}
+use Rattle.std.proofs.lemmas.List.{get_or-take, get_or-drop, get_or_read, get_or_append_left, get_or-append_right, drop-drop, length-append, length-drop, length-take-le}
 use Rattle.std.proofs.lemmas.Bool.{cases_lt}
 use Rattle.algebra.specs.Fields.{Ops, Ring}
 use Rattle.algebra.specs.Rings.{var, ◌⊕◌, ◌⊗◌}
@@ -56,16 +55,6 @@ module _ {F : Type 0} {o : Ops F} (laws : Ring o) where
             ∙ ap (λ (t : F). o.plus w (o.plus S t)) (ap f z)
             ∙ ap (o.plus w) (sym (sum_more laws f 0 c));
       }
-
--- a list of which first the front and then the rest were written
-pub two-parts : {X : Type 0} (front old back : List X) (n : ℕ) → length front ≡ n → put_mid n (length (front ++ old) - n) (front ++ old) back ≡ front ++ back
-two-parts {X} front old back n l =
-    let k = length (front ++ old) - n in
-    let past : length old ≤ k = omega (arith, length-append front old) in
-    ap (λ (t : List X). t ++ (back ++ drop k (drop n (front ++ old)))) (take_at front old n l)
-    ∙ ap (λ (t : List X). front ++ (back ++ drop k t)) (drop_at front old n l)
-    ∙ ap (λ (t : List X). front ++ (back ++ t)) (drop_all k old past)
-    ∙ ap (λ (t : List X). front ++ t) (append-nil back)
 
 module _ {F : Type 0} (o : Ops F) where
   -- the free elements, and then the others, are the word
