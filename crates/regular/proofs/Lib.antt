@@ -1,4 +1,4 @@
-pub mod Turns
+pub mod Chunks
 pub mod Views
 pub mod Walks
 pub mod Written

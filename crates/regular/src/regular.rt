@@ -7,7 +7,7 @@ ghost use Rattle.regular.specs.Makes.{regular_makes};
 
 use crate::hot::all_hot;
 use crate::level::{Crossing, Level};
-use crate::walk::{blocks, per_block};
+use crate::walk::{fill_blocks, per_block};
 use algebra::Field;
 use lock::word::fill_word;
 use lock::{Instance, Lock, Shape, Sound};
@@ -57,20 +57,20 @@ impl<F: Field> Lock<F> for Regular {
     }
 
     fn parts(problem: &Instance<F>, s: F, u: &[F], out: &mut [F]) {
-        let m = problem.shape.m as usize;
-        fill_word(problem, s, u, &mut out[0..m]);
-        out[m] = s;
+        let (level, word) = out.split_last_mut().unwrap();
+        fill_word(problem, s, u, word);
+        *level = s;
     }
 
     fn values(sound: &Sound<F, Self>, parts: &[F], out: &mut [F]) {
-        let level = Level::of(parts, sound.shape.m as usize);
-        blocks(&level, side(sound.shape), sound.shape.w as usize, out);
+        let level = Level::of(parts);
+        fill_blocks(&level, side(sound.shape), sound.shape.w as usize, out);
     }
 
     fn crosses(sound: &Sound<F, Self>, ones: &[F], zeros: &[F], out: &mut [F]) {
-        let one = Level::of(ones, sound.shape.m as usize);
-        let zero = Level::of(zeros, sound.shape.m as usize);
-        blocks(
+        let one = Level::of(ones);
+        let zero = Level::of(zeros);
+        fill_blocks(
             &Crossing { one, zero },
             side(sound.shape),
             sound.shape.w as usize,
@@ -82,7 +82,7 @@ impl<F: Field> Lock<F> for Regular {
         if !all_hot(x, side(sound.shape), sound.shape.w as usize) {
             return Err(Refusal::NoSolution);
         }
-        u.copy_from_slice(&x[0..sound.shape.k as usize]);
+        u.copy_from_slice(&x[..sound.shape.k as usize]);
         Ok(())
     }
 }
