@@ -1,4 +1,4 @@
-use Rattle.std.proofs.Common.{◌≡◌, suc, ◌+◌, ◌-◌, rules, arith}
+use Rattle.std.proofs.Common.{rules}
 use Rattle.regular.proofs.Walks.{pairs_more}
 use Rattle.regular.proofs.walk.fill_pairs.Goals as goal
 
