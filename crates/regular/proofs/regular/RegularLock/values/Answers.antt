@@ -2,6 +2,4 @@ use Rattle.regular.proofs.Views.{values_listed}
 use Rattle.regular.proofs.regular.RegularLock.values.Goals as goal
 
 pub returns : goal.returns
-returns g c =
-    values_listed g.F.Field.ops c.args.sound.now.shape c.side.result c.args.parts.now c.of-level.result.word.now c.fill_blocks.new.out
-    c.of-level.result.level c.side.ensures c.of-level.ensures.value c.fill_blocks.ensures
+returns g c = values_listed g.F.Field.ops c.args.sound.now.shape _ _ _ _ _ c.side.ensures c.of-level.ensures.value c.fill_blocks.ensures
