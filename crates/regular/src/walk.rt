@@ -45,7 +45,7 @@ fn fill_pairs<F: Field, V: View<F>>(view: &V, block: Block, out: &mut [F])
     requires room { length out.old ≡ triangle block.size }
     ensures { out.new ≡ map (V.View.value view.now) (pairs block.start block.size) }
 {
-    // Rows go to places that are counted: of parts that split_off_mut hands out, the proof knows nothing once they are written.
+    // Each row goes to the place that was reached: of parts that split_off_mut hands out, the proof knows nothing once they are written.
     let last = block.start + block.size;
     let mut at = 0;
     for i in block.start..last {
@@ -84,7 +84,7 @@ pub fn fill_blocks<F: Field, V: View<F>>(view: &V, size: usize, count: usize, ou
     requires room { length out.old ≡ count * (1 + triangle size) }
     ensures { out.new ≡ map (V.View.value view.now) (blocks size 0 count) }
 {
-    // And so do blocks: of the parts of chunks_exact_mut the proof knows nothing either.
+    // Each block goes to its place: of parts that chunks_exact_mut hands out, the proof knows nothing once they are written.
     let per = per_block(size);
     for b in 0..count {
         let start = b * size;

@@ -1,5 +1,5 @@
 // The equations of the weight lock, and the secret of a word.
-ghost use Rattle.std.specs.Prelude.{◌≡◌, length};
+ghost use Rattle.std.specs.Prelude.{◌≡◌, ◌+◌, length, take, drop};
 ghost use Rattle.weight.specs.Places.{products_of, crossings_of};
 ghost use Rattle.weight.specs.Weight.{weight as weight_forms, parts as weight_parts};
 ghost use Rattle.weight.specs.Weights.{weight_lines, weight_opens, weight_makes};
@@ -56,15 +56,12 @@ impl<F: Field> Lock<F> for Weight {
     }
 
     fn values(sound: &Sound<F, Self>, parts: &[F], out: &mut [F]) {
-        let (word, locators) = parts.split_at(sound.shape.m as usize);
-        products(word, locators, out);
+        products(&Halves::of(parts, sound.shape.m as usize), out);
     }
 
     fn crosses(sound: &Sound<F, Self>, ones: &[F], zeros: &[F], out: &mut [F]) {
         let m = sound.shape.m as usize;
-        let (x, q) = ones.split_at(m);
-        let (y, r) = zeros.split_at(m);
-        crossings(x, q, y, r, out);
+        crossings(&Halves::of(ones, m), &Halves::of(zeros, m), out);
     }
 
     fn secret(sound: &Sound<F, Self>, x: &[F], u: &mut [F]) -> Result<(), Refusal> {
@@ -79,26 +76,44 @@ impl<F: Field> Lock<F> for Weight {
     }
 }
 
-// x_j q_j at each place j.
-fn products<F: Field>(x: &[F], q: &[F], out: &mut [F])
-    requires word { length x.now ≡ length out.old }
-    requires locators { length q.now ≡ length out.old }
-    ensures { out.new ≡ products_of F.Field.ops x.now q.now (length out.old) }
-{
-    for (j, product) in out.iter_mut().enumerate() {
-        *product = x[j].multiply(q[j]);
+// The parts: the word x, and the value of Q at each of its places.
+#[derive(Drop)]
+struct Halves<'a, F> {
+    word: &'a [F],
+    locators: &'a [F],
+    ghost even: { length locators.now ≡ length word.now },
+}
+
+impl<'a, F> Halves<'a, F> {
+    fn of(parts: &'a [F], places: usize) -> Halves<'a, F>
+        requires { length parts.now ≡ places + places }
+        ensures word { result.word.now ≡ take places parts.now }
+        ensures locators { result.locators.now ≡ drop places parts.now }
+    {
+        let (word, locators) = parts.split_at(places);
+        Halves { word, locators }
     }
 }
 
-// x_j r_j + y_j q_j at each place j.
-fn crossings<F: Field>(x: &[F], q: &[F], y: &[F], r: &[F], out: &mut [F])
-    requires word { length x.now ≡ length out.old }
-    requires locators { length q.now ≡ length out.old }
-    requires others { length y.now ≡ length out.old }
-    requires theirs { length r.now ≡ length out.old }
-    ensures { out.new ≡ crossings_of F.Field.ops x.now q.now y.now r.now (length out.old) }
+// x_j q_j at each place j.
+fn products<F: Field>(parts: &Halves<F>, out: &mut [F])
+    requires { length out.old ≡ length parts.now.word.now }
+    ensures { out.new ≡ products_of F.Field.ops parts.now.word.now parts.now.locators.now (length out.old) }
+{
+    for (j, product) in out.iter_mut().enumerate() {
+        *product = parts.word[j].multiply(parts.locators[j]);
+    }
+}
+
+// x_j r_j + y_j q_j at each place j, from x with q and y with r.
+fn crossings<F: Field>(one: &Halves<F>, zero: &Halves<F>, out: &mut [F])
+    requires one { length out.old ≡ length one.now.word.now }
+    requires zero { length out.old ≡ length zero.now.word.now }
+    ensures { out.new ≡ crossings_of F.Field.ops one.now.word.now one.now.locators.now zero.now.word.now zero.now.locators.now (length out.old) }
 {
     for (j, crossing) in out.iter_mut().enumerate() {
-        *crossing = x[j].multiply(r[j]).add(y[j].multiply(q[j]));
+        let down = one.word[j].multiply(zero.locators[j]);
+        let up = zero.word[j].multiply(one.locators[j]);
+        *crossing = down.add(up);
     }
 }

@@ -16,8 +16,7 @@ fn times_root<F: Field>(coefficients: &mut [F], root: F)
     requires { 0 < length coefficients.old }
     ensures { coefficients.new ≡ times_root F.Field.ops root (take (length coefficients.old - 1) coefficients.old) }
 {
-    let top = coefficients.len() - 1;
-    coefficients[top] = F::one();
+    *coefficients.last_mut().unwrap() = F::one();
     let mut before = F::zero();
     for coefficient in coefficients.iter_mut() {
         let here = *coefficient;
@@ -35,7 +34,7 @@ pub(crate) fn fill_roots<F: Field>(x: &[F], coefficients: &mut [F])
     let mut degree = 0;
     for (i, element) in x.iter().enumerate() {
         if element.number() != 0 {
-            times_root(&mut coefficients[..degree + 1], F::element(i as u16));
+            times_root(&mut coefficients[..=degree], F::element(i as u16));
             degree += 1;
         }
     }
