@@ -23,7 +23,7 @@ module _ {X : Type 0} (f : Equation → X) where
     pub room : length out ≡ n
     pub written : take t out ++ map f (pairs_with i (suc i + t) (length (drop t out))) ≡ map f (pairs_with i (suc i) n)
 
-  -- the rows before i are written, up to the place `at`, and those of the places up to `last` are left
+  -- the rows before that of i are written, up to the place `at`, and the others are left
   pub record Pairs (start size i at : ℕ) (out : List X) : Type 0 where
     pub room : at + triangle (start + size - i) ≡ length out
     pub written : take at out ++ map f (pairs i (start + size - i)) ≡ map f (pairs start size)
