@@ -1,6 +1,5 @@
 -- Lists by a function of the place. Assumes nothing.
-use Rattle.std.proofs.Common.{◌≡◌, ℕ, zero, suc, ◌+◌, ◌<◌, List, [], ◌∷◌, length, get_or, set, sym, refl, ap, ◌∙◌, ap₂, inl, inr, arith, get_or-set_other, get_or-set_same}
-use Rattle.std.proofs.lemmas.Bool.{cases_eq}
+use Rattle.std.proofs.Common.{◌≡◌, ℕ, zero, suc, ◌+◌, ◌<◌, List, [], ◌∷◌, length, get_or, refl, ap, ◌∙◌, ap₂, arith}
 use Rattle.lock.specs.Instances.{listed}
 
 module _ {X : Type 0} (f : ℕ → X) where
@@ -30,10 +29,3 @@ module _ {X : Type 0} (f : ℕ → X) where
   -- the first i places hold what they should
   abbrev pub Below : X → ℕ → List X → Type 0
   Below d i xs = (r : ℕ) → r < i → get_or xs r d ≡ f r
-
-  pub below_more : (d : X) (i : ℕ) (xs : List X) (v : X) → i < length xs → v ≡ f i → Below d i xs → Below d (i + 1) (set xs i v)
-  below_more d i xs v h e below r hr =
-      elim (cases_eq r i) [
-        | inl q ↦ ap (λ (j : ℕ). get_or (set xs i v) j d) q ∙ get_or-set_same xs i v d h ∙ e ∙ ap f (sym q)
-        | inr ne ↦ get_or-set_other xs i r v d ne ∙ below r (omega arith)
-      ]

@@ -1,14 +1,10 @@
 -- Sums over places. Assumes nothing.
-use Rattle.std.proofs.Common.{◌≡◌, ℕ, zero, suc, ◌+◌, ◌*◌, ◌<◌, ◌≤◌, refl, ap, ◌∙◌, ap₂, inl, inr, mul-le-mul_right, suc-mul, arith}
+use Rattle.std.proofs.Common.{◌≡◌, ℕ, zero, suc, ◌+◌, ◌<◌, ◌≤◌, refl, ap, ◌∙◌, ap₂, inl, inr, arith}
 use Rattle.std.proofs.lemmas.Bool.{cases_eq}
 use Rattle.algebra.specs.Fields.{Ops, Ring}
 use Rattle.algebra.specs.Sums.{sum_from}
 use Rattle.algebra.proofs.Equations.{zero-plus}
 use Rattle.algebra.proofs.Linear.{sums_linear}
-
--- column c and row r lie inside a matrix of k columns
-pub inside : (c k r n : ℕ) → c < k → r < n → c * n + r < k * n
-inside c k r n hc hr = let a : suc c * n ≤ k * n = mul-le-mul_right n hc in omega (arith, suc-mul c n)
 
 module _ {F : Type 0} {o : Ops F} (laws : Ring o) where
   module _ (f : ℕ → F) where

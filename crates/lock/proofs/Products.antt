@@ -1,15 +1,14 @@
 -- The turns of the loops that multiply by the matrix. Assumes nothing.
-use Rattle.std.proofs.Common.{◌≡◌, ℕ, zero, suc, ◌+◌, ◌-◌, ◌*◌, ◌<◌, ◌≤◌, List, [], ◌∷◌, ◌++◌, length, get_or, take, drop, set, replicate, sym, refl, ap, ◌∙◌, ap₂, inl, inr, mul-le-mul_right, suc-mul, zero-mul, add-one, arith, get_or-set_other, get_or-set_same}
-use borrow.Rule.Slice.PartMut.{put_mid}
-use Rattle.std.proofs.lemmas.List.{get_or-take, get_or-drop, get_or_read, get_or_append_left, get_or-append_right, drop-drop, drop_all, drop_at, take_at, append-nil, length-append, length-drop, length-take-le}
-use Rattle.std.proofs.lemmas.Bool.{cases_eq, cases_lt}
+use Rattle.std.proofs.Common.{◌≡◌, ℕ, suc, ◌+◌, ◌-◌, ◌*◌, ◌<◌, ◌≤◌, List, [], ◌∷◌, ◌++◌, length, get_or, take, drop, sym, refl, ap, ◌∙◌, ap₂, inl, inr, mul-le-mul_right, suc-mul, add-one, arith}
+use Rattle.std.proofs.lemmas.List.{get_or-take, get_or-drop, get_or_read, get_or_append_left, get_or-append_right, drop-drop, length-append, length-drop, length-take-le}
+use Rattle.std.proofs.lemmas.Bool.{cases_lt}
 use Rattle.algebra.specs.Fields.{Ops, Ring}
-use Rattle.algebra.specs.Rings.{var, O, ◌⊕◌, ◌⊗◌}
+use Rattle.algebra.specs.Rings.{var, ◌⊕◌, ◌⊗◌}
 use Rattle.algebra.specs.Sums.{combined, minus}
-use Rattle.algebra.proofs.Equations.{ring, zero-plus}
+use Rattle.algebra.proofs.Equations.{ring}
 use Rattle.algebra.proofs.Scaled.{get_or-combined}
-use Rattle.lock.specs.Instances.{Problem, item, row_sum, entry, word}
-use Rattle.lock.specs.Products.{row_times, Added, BoundPart}
+use Rattle.lock.specs.Instances.{Problem, item, entry, word}
+use Rattle.lock.specs.Products.{row_times, BoundPart}
 use Rattle.lock.proofs.Places.{sum_more}
 use Rattle.lock.proofs.Words.{word_from, entry_free, entry_bound, row_same}
 
@@ -31,12 +30,6 @@ column_left n rows c matrix rest l h e =
     omega (arith, suc-mul c rows, ap length e, length-drop (c * rows) matrix)
 
 module _ {F : Type 0} {o : Ops F} (laws : Ring o) where
-  pub adding_none : (matrix factors was : List F) (rows : ℕ) → Adding o matrix factors was rows 0 matrix was
-  adding_none matrix factors was rows = record {
-    left = let z : 0 ≡ 0 * rows = sym (zero-mul rows) in ap (λ (n : ℕ). drop n matrix) z;
-    done = λ r h. ring laws (item o was r ∷ []) (var 0) (var 0 ⊕ O) refl;
-  }
-
   pub adding_more : (matrix factors was : List F) (rows c : ℕ) (rest sums column more after : List F) (a : F)
       → length matrix ≡ length factors * rows → length sums ≡ rows → c < length factors
       → column ≡ take rows rest → more ≡ drop rows rest → a ≡ get_or factors c a → after ≡ combined o a column sums
@@ -64,76 +57,21 @@ module _ {F : Type 0} {o : Ops F} (laws : Ring o) where
       }
 
 module _ {F : Type 0} (o : Ops F) where
-  pub adding_all : (matrix factors was : List F) (c : ℕ) (rest sums : List F) → c ≡ length factors → Adding o matrix factors was (length was) c rest sums
-      → Added o matrix factors was sums
-  adding_all matrix factors was c rest sums e inv r h =
-      inv.done r h ∙ ap (λ (n : ℕ). o.plus (item o was r) (row_times o matrix (length was) factors r n)) e
-
-  pub binding_none : (p : Problem F) (s : F) (rows : List F) → Binding o p s rows 0 rows
-  binding_none p s rows = record { before = λ r h. absurd (omega arith); after = λ r h. refl }
-
-  pub binding_more : (p : Problem F) (s : F) (rows : List F) (i : ℕ) (out : List F) (y a b n v : F) → i < length out → i < length p.target
-      → y ≡ get_or p.target i y → a ≡ o.times y s → b ≡ get_or out i b → n ≡ o.negate b → v ≡ o.plus a n
-      → Binding o p s rows i out → Binding o p s rows (i + 1) (set out i v)
-  binding_more p s rows i out y a b n v h ht ey ea eb en ev inv =
-      let here : v ≡ minus o (o.times (item o p.target i) s) (item o rows i) =
-      ev ∙ ap₂ o.plus (ea ∙ ap (λ (t : F). o.times t s) (get_or_read p.target i y ht ey o.zero))
-      (en ∙ ap o.negate (get_or_read out i b h eb o.zero ∙ inv.after i (omega arith))) in
-      record {
-        before = λ r hr.
-            elim (cases_eq r i) [
-              | inl q ↦
-                  ap (λ (j : ℕ). item o (set out i v) j) q ∙ get_or-set_same out i v o.zero h ∙ here
-                  ∙ ap (λ (j : ℕ). minus o (o.times (item o p.target j) s) (item o rows j)) (sym q)
-              | inr ne ↦ get_or-set_other out i r v o.zero ne ∙ inv.before r (omega arith)
-            ];
-        after = λ r hr. get_or-set_other out i r v o.zero (λ q. omega arith) ∙ inv.after r (omega arith);
-      }
-
-  pub replicate-zero : (n r : ℕ) → item o (replicate n o.zero) r ≡ o.zero
-  replicate-zero zero r = refl
-  replicate-zero (suc n) zero = refl
-  replicate-zero (suc n) (suc r) = replicate-zero n r
-
-  -- zero and the rows of H' x_A, subtracted from y s
-  pub binding_all : Ring o → (p : Problem F) (s : F) (free zeros rows out : List F) (i : ℕ) → p.shape.m - p.shape.k ≤ i
-      → length zeros ≡ p.shape.m - p.shape.k → length free ≡ p.shape.k → ((r : ℕ) → item o zeros r ≡ o.zero)
-      → Added o p.matrix free zeros rows → Binding o p s rows i out → BoundPart o p s free out
-  binding_all laws p s free zeros rows out i h lz lf z added inv r hr =
-      let n = p.shape.m - p.shape.k in
-      let y = item o p.target r in
-      let row : item o rows r ≡ row_sum o p free r =
-      added r (omega arith) ∙ ap (λ (t : F). o.plus t (row_times o p.matrix (length zeros) free r (length free))) (z r)
-      ∙ zero-plus laws (row_times o p.matrix (length zeros) free r (length free))
-      ∙ ap₂ (λ (a b : ℕ). row_times o p.matrix a free r b) lz lf in
-      inv.before r (omega arith) ∙ ap (minus o (o.times y s)) row
-
--- a list of which first the front and then the rest were written
-pub two-parts : {X : Type 0} (front old back : List X) (n : ℕ) → length front ≡ n → put_mid n (length (front ++ old) - n) (front ++ old) back ≡ front ++ back
-two-parts {X} front old back n l =
-    let k = length (front ++ old) - n in
-    let past : length old ≤ k = omega (arith, length-append front old) in
-    ap (λ (t : List X). t ++ (back ++ drop k (drop n (front ++ old)))) (take_at front old n l)
-    ∙ ap (λ (t : List X). front ++ (back ++ drop k t)) (drop_at front old n l)
-    ∙ ap (λ (t : List X). front ++ (back ++ t)) (drop_all k old past)
-    ∙ ap (λ (t : List X). front ++ t) (append-nil back)
-
-module _ {F : Type 0} (o : Ops F) where
   -- the free elements, and then the others, are the word
-  pub word-parts : Ring o → (p : Problem F) (s : F) (u free out : List F) → free ≡ take p.shape.k u → p.shape.k ≤ length u → p.shape.k ≤ p.shape.m
-      → length out ≡ p.shape.m - p.shape.k → BoundPart o p s free out → free ++ out ≡ word o p s u
-  word-parts laws p s u free out ef hu km lo bound =
+  pub word-parts : Ring o → (p : Problem F) (s : F) (u front out : List F) → front ≡ take p.shape.k u → p.shape.k ≤ length u → p.shape.k < p.shape.m
+      → length out ≡ p.shape.m - p.shape.k → BoundPart o p s (take p.shape.k u) out → front ++ out ≡ word o p s u
+  word-parts laws p s u front out ef hu km lo bound =
       let k = p.shape.k in
-      let lf : length free ≡ k = ap length ef ∙ length-take-le k u hu in
-      word_from o p s u (free ++ out) (length-append free out ∙ omega arith) (λ i h.
+      let free = take k u in
+      let lf : length front ≡ k = ap length ef ∙ length-take-le k u hu in
+      word_from o p s u (front ++ out) (length-append front out ∙ omega arith) (λ i h.
       elim (cases_lt i k) [
         | inl lt ↦
-            get_or_append_left free out o.zero i (omega arith) ∙ ap (λ (l : List F). item o l i) ef ∙ get_or-take k u i o.zero lt
+            get_or_append_left front out o.zero i (omega arith) ∙ ap (λ (l : List F). item o l i) ef ∙ get_or-take k u i o.zero lt
             ∙ sym (entry_free o p i s u lt)
         | inr ge ↦
             let e : k + (i - k) ≡ i = omega arith in
-            get_or-append_right free out k i o.zero lf ge ∙ bound (i - k) (omega arith)
-            ∙ ap (minus o (o.times (item o p.target (i - k)) s))
-            (row_same laws p free u (i - k) (λ j hj. ap (λ (l : List F). item o l j) ef ∙ get_or-take k u j o.zero hj))
+            get_or-append_right front out k i o.zero lf ge ∙ bound (i - k) (omega arith)
+            ∙ ap (minus o (o.times (item o p.target (i - k)) s)) (row_same laws p free u (i - k) (λ j hj. get_or-take k u j o.zero hj))
             ∙ sym (entry_bound o p (i - k) s u) ∙ ap (λ (j : ℕ). entry o p j s u) e
       ])

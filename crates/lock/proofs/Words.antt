@@ -1,6 +1,5 @@
 -- The word of unknowns: its places, and that it satisfies H x = y. Assumes nothing.
-use Rattle.std.proofs.Common.{◌≡◌, ℕ, ◌+◌, ◌-◌, ◌<◌, ◌≤◌, Bool, true, false, cond, eqb, ltb, List, [], ◌∷◌, length, get_or, sym, refl, ap, ◌∙◌, ap₂, inl, inr, arith}
-use Rattle.std.proofs.lemmas.List.{get_or_read}
+use Rattle.std.proofs.Common.{◌≡◌, ℕ, ◌+◌, ◌-◌, ◌<◌, ◌≤◌, Bool, true, false, cond, eqb, ltb, List, [], ◌∷◌, length, sym, refl, ap, ◌∙◌, ap₂, inl, inr, arith}
 use Rattle.std.proofs.lemmas.Bool.{lt-ltb, le-ltb, eq-eqb, ne_eqb, cases_lt}
 use Rattle.algebra.specs.Fields.{Ops, Ring}
 use Rattle.algebra.specs.Rings.{var, I, ◌⊕◌, ◌⊗◌, neg}
@@ -27,14 +26,6 @@ module _ {F : Type 0} (o : Ops F) where
   pub word_from : (p : Problem F) (s : F) (u xs : List F) → length xs ≡ p.shape.m → ((i : ℕ) → i < p.shape.m → item o xs i ≡ entry o p i s u) → xs ≡ word o p s u
   unfolding word
   word_from p s u xs l e = is-listed_all (λ i. entry o p i s u) p.shape.m xs o.zero l e
-
-  pub word_long : (p : Problem F) (s : F) (u xs : List F) → xs ≡ word o p s u → length xs ≡ p.shape.m
-  word_long p s u xs e = ap length e ∙ length_word p s u
-
-  -- an element that was read from the word
-  pub word_at : (p : Problem F) (s : F) (u xs : List F) (i : ℕ) (a : F) → xs ≡ word o p s u → i < p.shape.m → a ≡ get_or xs i a → a ≡ coordinate o p i s u
-  word_at p s u xs i a e h r =
-      get_or_read xs i a (omega (arith, word_long p s u xs e)) r o.zero ∙ ap (λ (l : List F). item o l i) e
 
   -- the free elements, and the others
   pub entry_free : (p : Problem F) (i : ℕ) (s : F) (u : List F) → i < p.shape.k → entry o p i s u ≡ item o u i

@@ -1,31 +1,20 @@
 // Whether the numbers of a profile are within their limits. Ranges are tested before anything is computed from the numbers.
 ghost use Rattle.std.specs.Prelude.{◌≡◌, ◌≤◌};
 ghost use Rattle.lock.specs.Locks.{sound as sound_for, within as within_for};
-ghost use Rattle.lock.specs.Profiles.{ranged as ranged_of, repeated as repeated_of, rounds as rounds_of, same_codes};
+ghost use Rattle.lock.specs.Profiles.{ranged as ranged_of, repeated as repeated_of, rounds as rounds_of};
 
 use crate::lock::Lock;
-use crate::profile::{Codes, Profile, Shape};
+use crate::profile::{Profile, Shape};
 use algebra::Field;
-
-impl Codes {
-    pub fn agree(self, other: Codes) -> bool
-        ensures { result ≡ same_codes self other }
-    {
-        self.field == other.field && self.lock == other.lock && self.expander == other.expander
-    }
-}
 
 impl Shape {
     // m, k and w are in the ranges that every lock has.
     pub fn ranged(self) -> bool
         ensures { result ≡ ranged_of self }
     {
-        2 <= self.m
-            && self.m <= 250
-            && 1 <= self.k
-            && self.k < self.m
-            && 1 <= self.w
-            && self.w <= self.m
+        (2..=250).contains(&self.m)
+            && (1..self.m).contains(&self.k)
+            && (1..=self.m).contains(&self.w)
     }
 
     // The numbers are those of a lock: in their ranges, with at most 256 unknowns, and as the lock wants them.
@@ -48,13 +37,10 @@ impl Profile {
     fn repeated(&self) -> bool
         ensures { result ≡ repeated_of self.now }
     {
-        1 <= self.a
-            && self.a <= 7
+        (1..=7).contains(&self.a)
             && self.b <= 5
-            && 1 <= self.rho
-            && self.rho <= 16
-            && 1 <= self.t
-            && self.t as usize <= self.a as usize * self.rounds()
+            && (1..=16).contains(&self.rho)
+            && (1..=self.a as usize * self.rounds()).contains(&(self.t as usize))
     }
 
     pub fn within<F: Field, L: Lock<F>>(&self) -> bool

@@ -1,4 +1,3 @@
-pub mod Turns
+pub mod Chunks
 pub mod Views
 pub mod Walks
-pub mod Written

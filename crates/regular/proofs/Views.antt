@@ -1,8 +1,7 @@
 -- What the equations are worked out from, and all of them in a list. Assumes nothing.
-use Rattle.std.proofs.Common.{◌≡◌, ℕ, zero, suc, ◌+◌, ◌-◌, ◌*◌, ◌≤◌, List, [], ◌∷◌, ◌++◌, map, length, get_or, take, drop, set, sym, refl, ap, ◌∙◌, ap₂, arith, length-append}
-use borrow.Rule.Slice.PartMut.{post_of}
+use Rattle.std.proofs.Common.{◌≡◌, ℕ, zero, suc, ◌+◌, ◌-◌, ◌*◌, ◌≤◌, List, [], ◌∷◌, ◌++◌, map, length, take, drop, sym, refl, ap, ◌∙◌, ap₂, arith, length-append}
 use Rattle.std.specs.List.{between}
-use Rattle.std.proofs.lemmas.List.{drop_more, take_at, drop_all, set_split, length-map, length-drop, get_or-map, take_all, take_more}
+use Rattle.std.proofs.lemmas.List.{drop_more, length-map, get_or-map}
 use Rattle.algebra.specs.Fields.{Ops}
 use Rattle.algebra.specs.Sums.{total, sum_from}
 use Rattle.lock.specs.declared.profile.Shape.{Shape}
@@ -24,21 +23,6 @@ module _ {X : Type 0} where
       let tail : xs ++ (a ∷ []) ≡ ys ++ (b ∷ []) = cc in
       let r = snoc_same xs ys a b tail in
       (ap₂ (λ (z : X) (zs : List X). z ∷ zs) head r.0, r.1)
-
-  pub split_last : (m : ℕ) (parts : List X) (v : X) → length parts ≡ m + 1 → v ≡ get_or parts m v → parts ≡ take (m - 0) parts ++ (v ∷ [])
-  split_last m parts v l e =
-      let z : m ≡ m - 0 = omega arith in
-      sym (take_all (m + 1) parts (omega arith)) ∙ take_more parts m v (omega arith)
-      ∙ ap₂ (λ (k : ℕ) (x : X). take k parts ++ (x ∷ [])) z (sym e)
-
-  pub join_last : (m : ℕ) (out xs ys : List X) (v : X) → length out ≡ m + 1 → xs ≡ ys → length ys ≡ m
-      → set (xs ++ post_of 0 (m - 0) out) m v ≡ ys ++ (v ∷ [])
-  join_last m out xs ys v l e ly =
-      let post = post_of 0 (m - 0) out in
-      let lp = length-drop (m - 0) out in
-      let la = length-append ys post in
-      ap (λ (zs : List X). set (zs ++ post) m v) e ∙ set_split (ys ++ post) m v (omega arith)
-      ∙ ap₂ (λ (a b : List X). a ++ (v ∷ b)) (take_at ys post m ly) (drop_all (suc m) (ys ++ post) (omega arith))
 
 -- ---- the sum of a block
 

@@ -1,159 +1,74 @@
 -- What is left of the equations at each turn of the walk over them. Assumes nothing.
-use Rattle.std.proofs.Common.{◌≡◌, ℕ, suc, ◌+◌, ◌-◌, ◌*◌, ◌<◌, ◌≤◌, List, [], ◌∷◌, ◌++◌, map, length, set, ap, ◌∙◌, ap₂, append-nil, zero-mul, arith}
+use Rattle.std.proofs.Common.{◌≡◌, ℕ, suc, ◌+◌, ◌-◌, ◌*◌, ◌<◌, ◌≤◌, List, ◌++◌, map, length, take, drop, sym, ap, ◌∙◌, ap₂, append_assoc, add-one, suc-mul, mul-le-mul_right, arith}
 use borrow.Rule.Slice.PartMut.{put_mid, same_len_mid}
 use Rattle.std.specs.List.{between}
+use Rattle.std.proofs.lemmas.List.{map-append}
 use Rattle.std.proofs.lemmas.List.Edits.{length-between}
-use Rattle.std.proofs.lemmas.List.{map-append, drop_all}
-use Rattle.regular.specs.Regular.{Equation, whole, pair, pairs_with, pairs, block, blocks, triangle}
-use Rattle.regular.specs.Counts.{triangle_left, times_left}
-use Rattle.regular.proofs.Written.{Written, written_one, written-part, written_all}
+use Rattle.std.proofs.lemmas.Slice.{take-put_mid}
+use Rattle.regular.specs.Regular.{Equation, pairs_with, pairs, block, blocks, triangle}
+
+-- where a part was written after those before it, what is left is less by that part
+written : {X : Type 0} (out part left whole : List X) (at n : ℕ) → at + n ≤ length out → length part ≡ n → take at out ++ (part ++ left) ≡ whole
+    → take (at + n) (put_mid at (at + n - at) out part) ++ left ≡ whole
+written {X} out part left whole at n h l e =
+    ap (λ (xs : List X). xs ++ left) (take-put_mid at (at + n - at) out part (at + n) (omega arith) (omega arith)) ∙ append_assoc (take at out) part left ∙ e
+
+-- and the whole is as long as it was
+kept : {X : Type 0} (out part : List X) (at n : ℕ) → at + n ≤ length out → length part ≡ n → length (put_mid at (at + n - at) out part) ≡ length out
+kept out part at n h l = same_len_mid at (at + n - at) out part (l ∙ sym (length-between out at (at + n) h ∙ omega arith))
 
 module _ {X : Type 0} (f : Equation → X) where
-  -- the next of what is left, and the rest of it
-
-  row_left : (i j n t : ℕ) → t < n
-      → map f (pairs_with i (j + t) (n - t)) ≡ f (pair i (j + t)) ∷ map f (pairs_with i (j + (t + 1)) (n - (t + 1)))
-  row_left i j n t h =
-      let e : n - t ≡ suc (n - (t + 1)) = omega arith in
-      let s : suc (j + t) ≡ j + (t + 1) = omega arith in
-      ap (λ (k : ℕ). map f (pairs_with i (j + t) k)) e ∙ ap (λ (k : ℕ). f (pair i (j + t)) ∷ map f (pairs_with i k (n - (t + 1)))) s
-
-  pairs_left : (i n t : ℕ) → t < n
-      → map f (pairs (i + t) (n - t)) ≡ map f (pairs_with (i + t) (i + t + 1) (n - t - 1)) ++ map f (pairs (i + (t + 1)) (n - (t + 1)))
-  pairs_left i n t h =
-      let e : n - t ≡ suc (n - t - 1) = omega arith in
-      let s : suc (i + t) ≡ i + t + 1 = omega arith in
-      let r : i + t + 1 ≡ i + (t + 1) = omega arith in
-      let d : n - t - 1 ≡ n - (t + 1) = omega arith in
-      ap (λ (k : ℕ). map f (pairs (i + t) k)) e
-      ∙ ap (λ (k : ℕ). map f (pairs_with (i + t) k (n - t - 1) ++ pairs k (n - t - 1))) s
-      ∙ map-append f (pairs_with (i + t) (i + t + 1) (n - t - 1)) (pairs (i + t + 1) (n - t - 1))
-      ∙ ap₂ (λ (a k : ℕ). map f (pairs_with (i + t) (i + t + 1) (n - t - 1)) ++ map f (pairs a k)) r d
-
-  blocks_left : (n i c b : ℕ) → b < c → map f (blocks n i (c - b)) ≡ map f (block i n) ++ map f (blocks n (i + n) (c - (b + 1)))
-  blocks_left n i c b h =
-      let e : c - b ≡ suc (c - (b + 1)) = omega arith in
-      ap (λ (k : ℕ). map f (blocks n i k)) e ∙ map-append f (block i n) (blocks n (i + n) (c - (b + 1)))
-
-  -- t places of a row are written
-  pub record Row (i j n t : ℕ) (out : List X) : Type 0 where
+  -- t places of the row of i are written, and the rest is left
+  pub record Row (i n t : ℕ) (out : List X) : Type 0 where
     pub room : length out ≡ n
-    pub written : Written out t (map f (pairs_with i (j + t) (n - t))) (map f (pairs_with i j n))
+    pub written : take t out ++ map f (pairs_with i (suc i + t) (length (drop t out))) ≡ map f (pairs_with i (suc i) n)
 
-  -- t rows of the pairs of a block are written, up to the place `at`
-  pub record Pairs (i n t at : ℕ) (out : List X) : Type 0 where
-    pub room : at + triangle (n - t) ≡ length out
-    pub written : Written out at (map f (pairs (i + t) (n - t))) (map f (pairs i n))
+  -- the rows before that of i are written, up to the place `at`, and the others are left
+  pub record Pairs (start size i at : ℕ) (out : List X) : Type 0 where
+    pub room : at + triangle (start + size - i) ≡ length out
+    pub written : take at out ++ map f (pairs i (start + size - i)) ≡ map f (pairs start size)
 
-  -- b of c blocks are written, up to the place `at`, and the next begins at i
-  pub record Blocks (n c b i at places : ℕ) (out : List X) : Type 0 where
-    pub inside : i + (c - b) * n ≤ places
-    pub room : at + (c - b) * (1 + triangle n) ≡ length out
-    pub written : Written out at (map f (blocks n i (c - b))) (map f (blocks n 0 c))
+  -- b of the blocks are written, and the rest is left
+  pub record Blocks (size count b : ℕ) (out : List X) : Type 0 where
+    pub room : length out ≡ count * (1 + triangle size)
+    pub written : take (b * (1 + triangle size)) out ++ map f (blocks size (b * size) (count - b)) ≡ map f (blocks size 0 count)
 
-  -- a block is written once its sum and its pairs are
-  pub block_all : (i n k : ℕ) (out part : List X) (v : X) → 1 ≤ length out → length out - 1 ≤ k → v ≡ f (whole i n) → part ≡ map f (pairs i n)
-      → put_mid 1 k (set out 0 v) part ≡ map f (block i n)
-  block_all i n k [] part v h l ev ep = absurd (omega arith)
-  block_all i n k (x ∷ out) part v h l ev ep =
-      ap (λ (t : List X). v ∷ (part ++ t)) (drop_all k out (omega arith)) ∙ ap (λ (t : List X). v ∷ t) (append-nil part)
-      ∙ ap₂ (λ (a : X) (t : List X). a ∷ t) ev ep
-
-module _ {X : Type 0} {f : Equation → X} where
-  -- ---- a row
-
-  pub row_none : (i j n : ℕ) (out : List X) → length out ≡ n → Row f i j n 0 out
-  row_none i j n out l =
-      let e : j + 0 ≡ j = omega arith in
-      let d : n - 0 ≡ n = omega arith in
-      record { room = l; written = ap₂ (λ (a k : ℕ). map f (pairs_with i a k)) e d }
-
-  pub row_more : {i j n t : ℕ} {out : List X} {v : X} → t < n → length (set out t v) ≡ length out → v ≡ f (pair i (j + t)) → Row f i j n t out
-      → Row f i j n (t + 1) (set out t v)
-  row_more {i = i} {j = j} {n = n} {t = t} {out = out} {v = v} h kept e p =
-      let r = p.room in
+  pub pairs_more : (start size i at n : ℕ) (out part : List X) → i < start + size → n ≡ start + size - i - 1 → Pairs start size i at out
+      → length part ≡ length (between at (at + n) out) → part ≡ map f (pairs_with i (suc i) (length (between at (at + n) out)))
+      → Pairs start size (i + 1) (at + n) (put_mid at (at + n - at) out part)
+  pairs_more start size i at n out part h en p el ep =
+      let e : start + size - i ≡ suc n = omega arith in
+      let room : at + (n + triangle n) ≡ length out = sym (ap (λ (k : ℕ). at + triangle k) e) ∙ p.room in
+      let long = length-between out at (at + n) (omega arith) in
+      let l : length part ≡ n = omega arith in
+      let next : start + size - (i + 1) ≡ n = omega arith in
+      let row : part ≡ map f (pairs_with i (suc i) n) = ep ∙ ap (λ (k : ℕ). map f (pairs_with i (suc i) k)) (sym el ∙ l) in
+      let left : part ++ map f (pairs (i + 1) (start + size - (i + 1))) ≡ map f (pairs i (start + size - i)) =
+      ap₂ (λ (a : List X) (k : ℕ). a ++ map f (pairs (i + 1) k)) row next
+      ∙ ap (λ (k : ℕ). map f (pairs_with i (suc i) n) ++ map f (pairs k n)) (add-one i)
+      ∙ sym (map-append f (pairs_with i (suc i) n) (pairs (suc i) n)) ∙ sym (ap (λ (k : ℕ). map f (pairs i k)) e) in
       record {
-        room = omega arith;
-        written = written_one out (map f (pairs_with i j n)) t v (f (pair i (j + t))) (map f (pairs_with i (j + t) (n - t)))
-            (map f (pairs_with i (j + (t + 1)) (n - (t + 1)))) (omega arith) p.written (row_left f i j n t h) e;
+        room = omega (arith, ap triangle next, kept out part at n (omega arith) l);
+        written = written out part _ _ at n (omega arith) l (ap (λ (xs : List X). take at out ++ xs) left ∙ p.written);
       }
 
-  pub row_all : {i j n t : ℕ} {out : List X} → n ≤ t → Row f i j n t out → out ≡ map f (pairs_with i j n)
-  row_all {i = i} {j = j} {n = n} {t = t} {out = out} h p =
-      let e : n - t ≡ 0 = omega arith in
-      let r = p.room in
-      written_all out (map f (pairs_with i j n)) t (map f (pairs_with i (j + t) (n - t))) p.written
-      (ap (λ (k : ℕ). map f (pairs_with i (j + t) k)) e) (omega arith)
-
-  -- ---- the pairs of a block
-
-  pub pairs_none : (i n : ℕ) (out : List X) → length out ≡ triangle n → Pairs f i n 0 0 out
-  pairs_none i n out l =
-      let e : i + 0 ≡ i = omega arith in
-      let d : n - 0 ≡ n = omega arith in
-      record { room = omega (arith, ap triangle d); written = ap₂ (λ (a k : ℕ). map f (pairs a k)) e d }
-
-  pub pairs_room : {i n t at : ℕ} {out : List X} → t < n → Pairs f i n t at out → at + (n - t - 1) ≤ length out
-  pairs_room {n = n} {t = t} h p = let r = p.room in omega (arith, triangle_left n t h)
-
-  pub pairs_more : {i n t at : ℕ} (end : ℕ) {out part : List X} → t < n → end ≡ at + (n - t - 1) → Pairs f i n t at out
-      → length part ≡ length (between at end out) → part ≡ map f (pairs_with (i + t) (i + t + 1) (length (between at end out)))
-      → Pairs f i n (t + 1) end (put_mid at (end - at) out part)
-  pairs_more {i = i} {n = n} {t = t} {at = at} end {out = out} {part = part} h ee p kept e =
-      let r = p.room in
-      let inside = pairs_room h p in
-      let l = length-between out at end (omega arith) in
-      let long = same_len_mid at (end - at) out part kept in
-      let row : length (between at end out) ≡ n - t - 1 = omega arith in
+  pub blocks_more : (size count b per : ℕ) (out part : List X) → b < count → per ≡ 1 + triangle size → Blocks size count b out → length part ≡ per
+      → part ≡ map f (block (b * size) size) → Blocks size count (b + 1) (put_mid (b * per) (b * per + per - b * per) out part)
+  blocks_more size count b per out part h eper p l ep =
+      let some : count - b ≡ suc (count - (b + 1)) = omega arith in
+      let next : b * size + size ≡ (b + 1) * size = sym (ap (λ (k : ℕ). k * size) (add-one b) ∙ suc-mul b size) in
+      let end : b * per + per ≡ (b + 1) * per = sym (ap (λ (k : ℕ). k * per) (add-one b) ∙ suc-mul b per) in
+      let most : (b + 1) * per ≤ count * per = mul-le-mul_right per (omega arith) in
+      let size_of : length out ≡ count * per = p.room ∙ sym (ap (λ (k : ℕ). count * k) eper) in
+      let left : part ++ map f (blocks size ((b + 1) * size) (count - (b + 1))) ≡ map f (blocks size (b * size) (count - b)) =
+      ap₂ (λ (a : List X) (k : ℕ). a ++ map f (blocks size k (count - (b + 1)))) ep (sym next)
+      ∙ sym (map-append f (block (b * size) size) (blocks size (b * size + size) (count - (b + 1))))
+      ∙ sym (ap (λ (k : ℕ). map f (blocks size (b * size) k)) some) in
+      let done = written out part _ (map f (blocks size 0 count)) (b * per) per (omega arith) l
+      (ap (λ (xs : List X). take (b * per) out ++ xs) left ∙ ap (λ (k : ℕ). take (b * k) out ++ map f (blocks size (b * size) (count - b))) eper ∙ p.written) in
       record {
-        room = omega (arith, triangle_left n t h);
-        written = written-part out (map f (pairs i n)) part at end (map f (pairs (i + t) (n - t)))
-            (map f (pairs_with (i + t) (i + t + 1) (n - t - 1))) (map f (pairs (i + (t + 1)) (n - (t + 1)))) (omega arith) (omega arith) p.written
-            (pairs_left f i n t h) (e ∙ ap (λ (k : ℕ). map f (pairs_with (i + t) (i + t + 1) k)) row);
+        room = kept out part (b * per) per (omega arith) l ∙ p.room;
+        written =
+            sym (ap (λ (k : ℕ). take k (put_mid (b * per) (b * per + per - b * per) out part) ++ map f (blocks size ((b + 1) * size) (count - (b + 1))))
+            (end ∙ ap (λ (k : ℕ). (b + 1) * k) eper)) ∙ done;
       }
-
-  pub pairs_all : {i n t at : ℕ} {out : List X} → n ≤ t → Pairs f i n t at out → out ≡ map f (pairs i n)
-  pairs_all {i = i} {n = n} {t = t} {at = at} {out = out} h p =
-      let e : n - t ≡ 0 = omega arith in
-      let r = p.room in
-      written_all out (map f (pairs i n)) at (map f (pairs (i + t) (n - t))) p.written (ap (λ (k : ℕ). map f (pairs (i + t) k)) e)
-      (omega (arith, ap triangle e))
-
-  -- ---- all blocks
-
-  pub blocks_none : (n c places : ℕ) (out : List X) → c * n ≤ places → length out ≡ c * (1 + triangle n) → Blocks f n c 0 0 0 places out
-  blocks_none n c places out h l =
-      let d : c - 0 ≡ c = omega arith in
-      record {
-        inside = omega (arith, ap (λ (k : ℕ). k * n) d);
-        room = omega (arith, ap (λ (k : ℕ). k * (1 + triangle n)) d);
-        written = ap (λ (k : ℕ). map f (blocks n 0 k)) d;
-      }
-
-  pub blocks_inside : {n c b i at places : ℕ} {out : List X} → b < c → Blocks f n c b i at places out → i + n ≤ places
-  blocks_inside {n = n} {c = c} {b = b} h p = let r = p.inside in omega (arith, times_left c b n h)
-
-  pub blocks_room : {n c b i at places per : ℕ} {out : List X} → b < c → per ≡ 1 + triangle n → Blocks f n c b i at places out → at + per ≤ length out
-  blocks_room {n = n} {c = c} {b = b} h e p = let r = p.room in omega (arith, times_left c b (1 + triangle n) h)
-
-  pub blocks_more : {n c b i at places per : ℕ} (end : ℕ) {out part : List X} → b < c → per ≡ 1 + triangle n → end ≡ at + per → Blocks f n c b i at places out
-      → length part ≡ length (between at end out) → part ≡ map f (block i n) → Blocks f n c (b + 1) (i + n) end places (put_mid at (end - at) out part)
-  blocks_more {n = n} {c = c} {b = b} {i = i} {at = at} {per = per} end {out = out} {part = part} h ep ee p kept e =
-      let r = p.room in
-      let s = p.inside in
-      let room = blocks_room h ep p in
-      let l = length-between out at end (omega arith) in
-      let long = same_len_mid at (end - at) out part kept in
-      record {
-        inside = omega (arith, times_left c b n h);
-        room = omega (arith, times_left c b (1 + triangle n) h);
-        written = written-part out (map f (blocks n 0 c)) part at end (map f (blocks n i (c - b)))
-            (map f (block i n)) (map f (blocks n (i + n) (c - (b + 1)))) (omega arith) (omega arith) p.written (blocks_left f n i c b h) e;
-      }
-
-  pub blocks_all : {n c b i at places : ℕ} {out : List X} → c ≤ b → Blocks f n c b i at places out → out ≡ map f (blocks n 0 c)
-  blocks_all {n = n} {c = c} {b = b} {i = i} {at = at} {out = out} h p =
-      let e : c - b ≡ 0 = omega arith in
-      let r = p.room in
-      let z : (c - b) * (1 + triangle n) ≡ 0 = ap (λ (k : ℕ). k * (1 + triangle n)) e ∙ zero-mul (1 + triangle n) in
-      written_all out (map f (blocks n 0 c)) at (map f (blocks n i (c - b))) p.written (ap (λ (k : ℕ). map f (blocks n i k)) e) (omega arith)

@@ -1,9 +1,10 @@
 -- Blocks with exactly one [1] and otherwise [0], by counts and by places. Assumes nothing.
 use Rattle.std.specs.Prelude.{◌≡◌, ℕ, zero, suc, ◌+◌, ◌-◌, ◌*◌, ◌<◌, ◌≤◌, Bool, true, cond, List, [], ◌∷◌, length, take, drop, ◌==◌, ◌≢◌, refl}
-use Rattle.std.proofs.Common.{sym, ap, subst, ◌∙◌, inl, inr, suc-mul, zero-mul, arith}
+use Rattle.std.proofs.Common.{sym, ap, subst, ◌∙◌, inl, inr, suc-mul, zero-mul, arith, rules, tests}
+use Rattle.std.proofs.lemmas.Bool.Decides.{nat_tests}
 use Rattle.std.proofs.lemmas.List.{length-take-le, length-drop, get_or-take, get_or-drop}
 use Rattle.std.proofs.lemmas.List.Sums.{sum_by-cons}
-use Rattle.std.proofs.lemmas.Bool.{cases_eq, eq-eqb, ne_eqb, eqb-true, and_parts, and_from}
+use Rattle.std.proofs.lemmas.Bool.{cases_eq, eq-eqb, ne_eqb, and_parts, and_from}
 use Rattle.algebra.specs.Fields.{Ops, Numbered}
 use Rattle.algebra.proofs.Domains.{number_same, number_is-zero}
 use Rattle.lock.specs.Instances.{item}
@@ -32,14 +33,10 @@ module _ {F : Type 0} (o : Ops F) where
     pub zeros : counted o 0 xs + 1 ≡ length xs
 
   pub hot_counts : (xs : List F) → hot o xs ≡ true → Counts xs
-  hot_counts xs h =
-      let a = and_parts (counted o 1 xs == 1) _ h in
-      record { ones = eqb-true (counted o 1 xs) 1 a.0; zeros = eqb-true (counted o 0 xs + 1) (length xs) a.1 }
+  hot_counts xs h = search (rules, tests)
 
   pub counts-hot : (xs : List F) → Counts xs → hot o xs ≡ true
-  counts-hot xs c =
-      and_from (counted o 1 xs == 1) (counted o 0 xs + 1 == length xs) (eq-eqb (counted o 1 xs) 1 c.ones)
-      (eq-eqb (counted o 0 xs + 1) (length xs) c.zeros)
+  counts-hot xs c = let a = c.ones in let b = c.zeros in search (rules, tests)
 
   pub few : (xs : List F) → counted o 0 xs + counted o 1 xs ≤ length xs
   few [] = omega arith
@@ -47,14 +44,7 @@ module _ {F : Type 0} (o : Ops F) where
       let a = counted-cons 0 x xs in
       let b = counted-cons 1 x xs in
       let rest = few xs in
-      elim (cases_eq (o.number x) 0) [
-        | inl z ↦ omega (arith, hit (o.number x) 0 z, miss (o.number x) 1 (λ q. omega arith))
-        | inr nz ↦
-            elim (cases_eq (o.number x) 1) [
-              | inl e ↦ omega (arith, miss (o.number x) 0 nz, hit (o.number x) 1 e)
-              | inr ne ↦ omega (arith, miss (o.number x) 0 nz, miss (o.number x) 1 ne)
-            ]
-      ]
+      grind (arith, nat_tests)
 
 module _ {F : Type 0} {o : Ops F} (numbered : Numbered o) where
   zeros_placed : (xs : List F) → counted o 0 xs ≡ length xs → (t : ℕ) → t < length xs → item o xs t ≡ o.zero

@@ -1,7 +1,8 @@
 -- The regular lock is linear along lines, and is solved exactly where all its equations are zero. Assumes nothing.
-use Rattle.std.specs.Prelude.{◌≡◌, ℕ, zero, suc, ◌+◌, ◌*◌, ◌<◌, ◌≤◌, List, [], ◌∷◌, ◌++◌, length, ◌≢◌, slice_index_or, refl}
+use Rattle.std.specs.Prelude.{◌≡◌, ℕ, zero, suc, ◌+◌, ◌*◌, ◌<◌, ◌≤◌, List, [], ◌∷◌, ◌++◌, ◌≢◌, refl}
 use Rattle.std.proofs.Common.{sym, ap, subst, ◌∙◌, inl, inr, suc-mul, zero-mul, le_refl, arith}
 use Rattle.std.specs.List.{AllByRecursion}
+use Rattle.std.proofs.lemmas.List.Elements.{All-from_get_or, All-from_recursion, All-get_or, recursion_from_All}
 use Rattle.std.proofs.lemmas.Bool.{cases_eq}
 use Rattle.algebra.specs.Fields.{Ops, Ring, Numbered, ZeroProduct}
 use Rattle.algebra.specs.Rings.{O, I, ◌⊕◌, ◌⊗◌, neg}
@@ -30,15 +31,6 @@ module _ {X : Type 0} (P : X → Type 0) where
   all_back : (xs ys : List X) → AllByRecursion P (xs ++ ys) → AllByRecursion P ys
   all_back [] ys a = a
   all_back (x ∷ xs) ys a = all_back xs ys a.1
-
-  all_at : (xs : List X) (d : X) → AllByRecursion P xs → (j : ℕ) → j < length xs → P (slice_index_or xs j d)
-  all_at [] d a j h = absurd (omega arith)
-  all_at (x ∷ xs) d a zero h = a.0
-  all_at (x ∷ xs) d a (suc j) h = all_at xs d a.1 j (omega arith)
-
-  at_all : (xs : List X) (d : X) → ((j : ℕ) → j < length xs → P (slice_index_or xs j d)) → AllByRecursion P xs
-  at_all [] d f = tt
-  at_all (x ∷ xs) d f = (f 0 (omega arith), at_all xs d (λ j h. f (suc j) (omega arith)))
 
 -- ---- along a line
 
@@ -160,14 +152,14 @@ module _ {F : Type 0} {o : Ops F} (laws : Ring o) (numbered : Numbered o) (domai
         let long = length-blocks n 0 w in
         let z : 0 + b * n ≡ b * n = omega arith in
         subst (λ (j : ℕ). OneHot o x j n) z
-        (blocks-hot n 0 w (at_all Zero (blocks n 0 w) (pair 0 0) (λ j l. f j (subst (λ (c : ℕ). j < c) long l))) b h)
+        (blocks-hot n 0 w (recursion_from_All Zero (blocks n 0 w) (All-from_get_or Zero (blocks n 0 w) (pair 0 0) (λ j l. f j (omega arith)))) b h)
 
     zeros : Blocked o p u → (j : ℕ) → j < w * (1 + triangle n) → Zero (equation p.shape j)
     zeros s j h =
         let long = length-blocks n 0 w in
-        all_at Zero (blocks n 0 w) (pair 0 0)
-        (blocks-zero n 0 w (λ b l. let z : b * n ≡ 0 + b * n = omega arith in subst (λ (j : ℕ). OneHot o x j n) z (s b l))) j
-        (subst (λ (c : ℕ). j < c) (sym long) h)
+        All-get_or Zero (blocks n 0 w) j (pair 0 0) (omega arith)
+        (All-from_recursion Zero (blocks n 0 w)
+        (blocks-zero n 0 w (λ b l. let z : b * n ≡ 0 + b * n = omega arith in subst (λ (j : ℕ). OneHot o x j n) z (s b l))))
 
   pub regular_opens : Opens o (regular o)
   regular_opens = record { solved = λ p u l f. solved p u f; zeros = λ p u l s j h. zeros p u s j h }

@@ -9,20 +9,17 @@ fn count<F: Field>(elements: &[F], number: u16) -> usize
     ensures value { result ≡ counted F.Field.ops number elements.now }
     ensures most { result ≤ length elements.now }
 {
-    let mut found = 0;
-    for i in 0..elements.len() {
-        if elements[i].number() == number {
-            found += 1;
-        }
-    }
-    found
+    elements
+        .iter()
+        .filter(|element| element.number() == number)
+        .count()
 }
 
 // Whether a block is so.
 fn hot<F: Field>(block: &[F]) -> bool
     ensures { result ≡ hot_of F.Field.ops block.now }
 {
-    count(block, 1) == 1 && count(block, 0) + 1 == block.len()
+    count(block, 1) == 1 && count(block, 0) == block.len() - 1
 }
 
 // Whether so many blocks from the front are so.
@@ -30,13 +27,9 @@ pub fn all_hot<F: Field>(x: &[F], size: usize, blocks: usize) -> bool
     requires { blocks * size ≤ length x.now }
     ensures { result ≡ all_hot F.Field.ops size blocks x.now }
 {
-    let mut rest = x;
-    for _ in 0..blocks {
-        let (block, more) = rest.split_at(size);
-        if !hot(block) {
-            return false;
-        }
-        rest = more;
+    // Of blocks with no places none has a [1].
+    if size == 0 {
+        return blocks == 0;
     }
-    true
+    x.chunks_exact(size).take(blocks).all(hot)
 }

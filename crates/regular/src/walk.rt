@@ -1,8 +1,15 @@
 // All equations in order, block after block and in a block row after row, each worked out by itself.
-ghost use Rattle.std.specs.Prelude.{◌≡◌, ℕ, ◌+◌, ◌*◌, ◌<◌, ◌≤◌, map, length};
-ghost use Rattle.regular.specs.Regular.{Equation, whole, pair, pairs_with, pairs as pairs_of, block as block_of, blocks as blocks_of, triangle};
+ghost use Rattle.std.specs.Prelude.{◌≡◌, ℕ, suc, ◌+◌, ◌*◌, ◌<◌, ◌≤◌, map, length};
+ghost use Rattle.regular.specs.Regular.{Equation, whole, pair, pairs_with, pairs, block as equations_of, blocks, triangle};
 
 use algebra::Field;
+
+// The places of a block.
+#[derive(Clone, Copy)]
+pub struct Block {
+    pub start: usize,
+    pub size: usize,
+}
 
 // What equations are worked out from: something over the places of a word.
 pub trait View<F: Field> {
@@ -10,52 +17,53 @@ pub trait View<F: Field> {
 
     ghost value: { Self → Equation → F };
 
-    fn of_block(&self, start: usize, size: usize) -> F
-        requires { start + size ≤ places self.now }
-        ensures { result ≡ value self.now (whole start size) };
+    fn of_block(&self, block: Block) -> F
+        requires { block.start + block.size ≤ places self.now }
+        ensures { result ≡ value self.now (whole block.start block.size) };
 
     fn of_pair(&self, i: usize, j: usize) -> F
         requires first { i < places self.now }
         requires second { j < places self.now }
         ensures { result ≡ value self.now (pair i j) };
+
+    ghost short: { (v : Self) → places v ≤ 250 };
 }
 
-// The place i with each of those from `start` on.
-fn row<F: Field, V: View<F>>(view: &V, i: usize, start: usize, out: &mut [F])
-    requires order { i < start }
-    requires inside { start + length out.old ≤ V.View.places view.now }
-    requires short { V.View.places view.now ≤ 250 }
-    ensures { out.new ≡ map (V.View.value view.now) (pairs_with i start (length out.old)) }
+// The place i with each of those after it.
+fn fill_row<F: Field, V: View<F>>(view: &V, i: usize, out: &mut [F])
+    requires { suc i + length out.old ≤ V.View.places view.now }
+    ensures { out.new ≡ map (V.View.value view.now) (pairs_with i (suc i) (length out.old)) }
 {
-    for t in 0..out.len() {
-        out[t] = view.of_pair(i, start + t);
+    for (t, value) in out.iter_mut().enumerate() {
+        *value = view.of_pair(i, i + 1 + t);
     }
 }
 
-// The pairs of the places from `start` on.
-fn pairs<F: Field, V: View<F>>(view: &V, start: usize, size: usize, out: &mut [F])
-    requires inside { start + size ≤ V.View.places view.now }
-    requires short { V.View.places view.now ≤ 250 }
-    requires room { length out.old ≡ triangle size }
-    ensures { out.new ≡ map (V.View.value view.now) (pairs_of start size) }
+// The pairs of the places of a block.
+fn fill_pairs<F: Field, V: View<F>>(view: &V, block: Block, out: &mut [F])
+    requires inside { block.start + block.size ≤ V.View.places view.now }
+    requires room { length out.old ≡ triangle block.size }
+    ensures { out.new ≡ map (V.View.value view.now) (pairs block.start block.size) }
 {
+    // Each row goes to the place that was reached: of parts that split_off_mut hands out, the proof knows nothing once they are written.
+    let last = block.start + block.size;
     let mut at = 0;
-    for t in 0..size {
-        let end = at + (size - t - 1);
-        row(view, start + t, start + t + 1, &mut out[at..end]);
+    for i in block.start..last {
+        let end = at + (last - i - 1);
+        fill_row(view, i, &mut out[at..end]);
         at = end;
     }
 }
 
-// The sum and the pairs of the places from `start` on.
-fn block<F: Field, V: View<F>>(view: &V, start: usize, size: usize, out: &mut [F])
-    requires inside { start + size ≤ V.View.places view.now }
-    requires short { V.View.places view.now ≤ 250 }
-    requires room { length out.old ≡ 1 + triangle size }
-    ensures { out.new ≡ map (V.View.value view.now) (block_of start size) }
+// The sum and the pairs of the places of a block.
+fn fill_block<F: Field, V: View<F>>(view: &V, block: Block, out: &mut [F])
+    requires inside { block.start + block.size ≤ V.View.places view.now }
+    requires room { length out.old ≡ 1 + triangle block.size }
+    ensures { out.new ≡ map (V.View.value view.now) (equations_of block.start block.size) }
 {
-    out[0] = view.of_block(start, size);
-    pairs(view, start, size, &mut out[1..]);
+    let (sum, rest) = out.split_first_mut().unwrap();
+    *sum = view.of_block(block);
+    fill_pairs(view, block, rest);
 }
 
 // How many equations a block has: its sum, and a pair for each two of its places.
@@ -69,21 +77,18 @@ pub fn per_block(size: usize) -> usize
 }
 
 // The equations of all blocks.
-pub fn blocks<F: Field, V: View<F>>(view: &V, size: usize, count: usize, out: &mut [F])
+pub fn fill_blocks<F: Field, V: View<F>>(view: &V, size: usize, count: usize, out: &mut [F])
     requires inside { count * size ≤ V.View.places view.now }
-    requires short { V.View.places view.now ≤ 250 }
     requires low { 1 ≤ size }
     requires high { size ≤ 250 }
     requires room { length out.old ≡ count * (1 + triangle size) }
-    ensures { out.new ≡ map (V.View.value view.now) (blocks_of size 0 count) }
+    ensures { out.new ≡ map (V.View.value view.now) (blocks size 0 count) }
 {
+    // Each block goes to its place: of parts that chunks_exact_mut hands out, the proof knows nothing once they are written.
     let per = per_block(size);
-    let mut start = 0;
-    let mut at = 0;
-    for _ in 0..count {
-        let end = at + per;
-        block(view, start, size, &mut out[at..end]);
-        start += size;
-        at = end;
+    for b in 0..count {
+        let start = b * size;
+        let at = b * per;
+        fill_block(view, Block { start, size }, &mut out[at..at + per]);
     }
 }

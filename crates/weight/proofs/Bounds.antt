@@ -1,7 +1,6 @@
 -- A word that the weight lock admits is zero but at the roots of Q. Assumes nothing.
-use Rattle.std.proofs.Common.{◌≡◌, ℕ, ◌+◌, ◌<◌, ◌≤◌, List, [], ◌∷◌, ◌++◌, map, length, drop, sym, ap, ◌∙◌, inl, inr, arith}
+use Rattle.std.proofs.Common.{◌≡◌, ℕ, ◌+◌, ◌<◌, ◌≤◌, List, [], ◌∷◌, ◌++◌, map, length, drop, sym, ap, subst, ◌∙◌, inl, inr, arith}
 use Rattle.std.specs.List.{AllByRecursion}
-use Rattle.std.proofs.ByRecursion.{All-weaker}
 use Rattle.std.proofs.lemmas.List.{length_push, length-drop, length-map}
 use Rattle.std.proofs.lemmas.Bool.{cases_lt}
 use Rattle.algebra.specs.Fields.{Ops, Laws}
@@ -64,8 +63,7 @@ module _ {F : Type 0} {o : Ops F} (laws : Laws o) where
       let x = word o p o.one u in
       let wide : p.shape.m ≤ o.size = omega (arith, laws.size_low) in
       let long = length_word o p o.one u in
-      let live = All-weaker (λ j. (j < length x) × (item o x j ≡ o.zero → ⊥)) (NotZero o p x) (λ j a. let h = a.0 in (omega arith, a.1)) (places o 0 x)
-      (places-nonzero o laws.numbered x) in
+      let live = subst (λ (m : ℕ). AllByRecursion (λ j. (j < m) × (item o x j ≡ o.zero → ⊥)) (places o 0 x)) long (places-nonzero o laws.numbered x) in
       record {
         satisfies = words_satisfy laws.ring p u km;
         few = λ is d a. few-places p u wide solved is l a d;

@@ -1,5 +1,5 @@
 // The equations of the weight lock, and the secret of a word.
-ghost use Rattle.std.specs.Prelude.{◌≡◌, length};
+ghost use Rattle.std.specs.Prelude.{◌≡◌, ◌+◌, length, take, drop};
 ghost use Rattle.weight.specs.Places.{products_of, crossings_of};
 ghost use Rattle.weight.specs.Weight.{weight as weight_forms, parts as weight_parts};
 ghost use Rattle.weight.specs.Weights.{weight_lines, weight_opens, weight_makes};
@@ -9,7 +9,8 @@ use crate::locator::fill_locators;
 use crate::roots::{fill_roots, weight_of};
 use algebra::Field;
 use lock::word::fill_word;
-use lock::{Instance, Lock, Shape};
+use lock::{Instance, Lock, Shape, Sound};
+use refusal::Refusal;
 
 // The lock of the words that have at most w elements other than zero.
 pub struct Weight;
@@ -39,62 +40,80 @@ impl<F: Field> Lock<F> for Weight {
         shape.k as usize + shape.w as usize
     }
 
-    fn equations(shape: Shape) -> usize {
-        shape.m as usize
+    fn equations(sound: &Sound<F, Self>) -> usize {
+        sound.shape.m as usize
     }
 
-    fn part_count(shape: Shape) -> usize {
-        2 * shape.m as usize
+    fn part_count(sound: &Sound<F, Self>) -> usize {
+        2 * sound.shape.m as usize
     }
 
     fn parts(problem: &Instance<F>, s: F, u: &[F], out: &mut [F]) {
-        let m = problem.shape.m as usize;
         let k = problem.shape.k as usize;
-        fill_locators(s, &u[k..], &mut out[m..]);
-        fill_word(problem, s, u, &mut out[..m]);
+        let (word, locators) = out.split_at_mut(problem.shape.m as usize);
+        fill_word(problem, s, u, word);
+        fill_locators(s, &u[k..], locators);
     }
 
-    fn values(shape: Shape, parts: &[F], out: &mut [F]) {
-        let m = shape.m as usize;
-        products(&parts[..m], &parts[m..], out);
+    fn values(sound: &Sound<F, Self>, parts: &[F], out: &mut [F]) {
+        products(&Halves::of(parts, sound.shape.m as usize), out);
     }
 
-    fn crosses(shape: Shape, ones: &[F], zeros: &[F], out: &mut [F]) {
-        let m = shape.m as usize;
-        crossings(&ones[..m], &ones[m..], &zeros[..m], &zeros[m..], out);
+    fn crosses(sound: &Sound<F, Self>, ones: &[F], zeros: &[F], out: &mut [F]) {
+        let m = sound.shape.m as usize;
+        crossings(&Halves::of(ones, m), &Halves::of(zeros, m), out);
     }
 
-    fn secret(shape: Shape, x: &[F], u: &mut [F]) -> bool {
-        if weight_of(x) != shape.w as usize {
-            return false;
+    fn secret(sound: &Sound<F, Self>, x: &[F], u: &mut [F]) -> Result<(), Refusal> {
+        if weight_of(x) != sound.shape.w as usize {
+            return Err(Refusal::NoSolution);
         }
-        let k = shape.k as usize;
-        u[..k].copy_from_slice(&x[..k]);
-        fill_roots(x, &mut u[k..]);
-        true
+        let k = sound.shape.k as usize;
+        let (free, coefficients) = u.split_at_mut(k);
+        free.copy_from_slice(&x[..k]);
+        fill_roots(x, coefficients);
+        Ok(())
+    }
+}
+
+// The parts: the word x, and the value of Q at each of its places.
+#[derive(Drop)]
+struct Halves<'a, F> {
+    word: &'a [F],
+    locators: &'a [F],
+    ghost even: { length locators.now ≡ length word.now },
+}
+
+impl<'a, F> Halves<'a, F> {
+    fn of(parts: &'a [F], places: usize) -> Halves<'a, F>
+        requires { length parts.now ≡ places + places }
+        ensures word { result.word.now ≡ take places parts.now }
+        ensures locators { result.locators.now ≡ drop places parts.now }
+    {
+        let (word, locators) = parts.split_at(places);
+        Halves { word, locators }
     }
 }
 
 // x_j q_j at each place j.
-fn products<F: Field>(x: &[F], q: &[F], out: &mut [F])
-    requires word { length x.now ≡ length out.old }
-    requires locators { length q.now ≡ length out.old }
-    ensures { out.new ≡ products_of F.Field.ops x.now q.now (length out.old) }
+fn products<F: Field>(parts: &Halves<F>, out: &mut [F])
+    requires { length out.old ≡ length parts.now.word.now }
+    ensures { out.new ≡ products_of F.Field.ops parts.now.word.now parts.now.locators.now (length out.old) }
 {
-    for j in 0..out.len() {
-        out[j] = x[j].multiply(q[j]);
+    for (j, product) in out.iter_mut().enumerate() {
+        *product = parts.word[j].multiply(parts.locators[j]);
     }
 }
 
-// x_j r_j + y_j q_j at each place j.
-fn crossings<F: Field>(x: &[F], q: &[F], y: &[F], r: &[F], out: &mut [F])
-    requires word { length x.now ≡ length out.old }
-    requires locators { length q.now ≡ length out.old }
-    requires others { length y.now ≡ length out.old }
-    requires theirs { length r.now ≡ length out.old }
-    ensures { out.new ≡ crossings_of F.Field.ops x.now q.now y.now r.now (length out.old) }
+// x_j r_j + y_j q_j at each place j, from x with q and y with r.
+fn crossings<F: Field>(one: &Halves<F>, zero: &Halves<F>, out: &mut [F])
+    requires one { length out.old ≡ length one.now.word.now }
+    requires zero { length out.old ≡ length zero.now.word.now }
+    ensures { out.new ≡ crossings_of F.Field.ops one.now.word.now one.now.locators.now zero.now.word.now zero.now.locators.now (length out.old) }
 {
-    for j in 0..out.len() {
-        out[j] = x[j].multiply(r[j]).add(y[j].multiply(q[j]));
+    for (j, crossing) in out.iter_mut().enumerate() {
+        let down = one.word[j].multiply(zero.locators[j]);
+        let up = zero.word[j].multiply(one.locators[j]);
+        *crossing = down.add(up);
     }
 }

@@ -2,36 +2,22 @@
 ghost use Rattle.std.specs.Prelude.{◌≡◌, ◌≤◌, [], ◌∷◌, ◌++◌, length};
 ghost use Rattle.algebra.specs.Sums.{eval_of};
 ghost use Rattle.lock.specs.Instances.{listed};
-ghost use Rattle.weight.specs.Places.{risen};
 
 use algebra::Field;
 
-// Writes one element to every place.
-fn set_all<F: Field>(out: &mut [F], element: F)
-    ensures { out.new ≡ listed (λ _. element) 0 (length out.old) }
+// The value of the polynomial with these coefficients and the leading coefficient s, by Horner's rule.
+fn value_at<F: Field>(s: F, coefficients: &[F], at: F) -> F
+    ensures { result ≡ eval_of F.Field.ops (coefficients.now ++ (s ∷ [])) at }
 {
-    for j in 0..out.len() {
-        out[j] = element;
-    }
+    coefficients.iter().rev().fold(s, |value, coefficient| coefficient.add(at.multiply(value)))
 }
 
-// One step of Horner's rule: the value at each place j becomes the coefficient plus [j] times itself.
-fn horner_step<F: Field>(out: &mut [F], coefficient: F)
-    requires { length out.old ≤ 250 }
-    ensures { out.new ≡ risen F.Field.ops coefficient 0 out.old }
-{
-    for j in 0..out.len() {
-        out[j] = coefficient.add(F::element(j as u16).multiply(out[j]));
-    }
-}
-
-// The value at each place of the polynomial with these coefficients and the leading coefficient s.
+// Its value at each place.
 pub(crate) fn fill_locators<F: Field>(s: F, coefficients: &[F], out: &mut [F])
     requires { length out.old ≤ 250 }
     ensures { out.new ≡ listed (λ j. eval_of F.Field.ops (coefficients.now ++ (s ∷ [])) (F.Field.ops.element j)) 0 (length out.old) }
 {
-    set_all(out, s);
-    for t in (0..coefficients.len()).rev() {
-        horner_step(out, coefficients[t]);
+    for (j, value) in out.iter_mut().enumerate() {
+        *value = value_at(s, coefficients, F::element(j as u16));
     }
 }

@@ -8,13 +8,7 @@ use algebra::Field;
 pub(crate) fn weight_of<F: Field>(x: &[F]) -> usize
     ensures { result ≡ weight_of F.Field.ops x.now }
 {
-    let mut count = 0;
-    for i in 0..x.len() {
-        if x[i].number() != 0 {
-            count += 1;
-        }
-    }
-    count
+    x.iter().filter(|element| element.number() != 0).count()
 }
 
 // Multiplies a polynomial X^n + .. by X - root. The last place is not read: it is for the coefficient that is added.
@@ -22,12 +16,11 @@ fn times_root<F: Field>(coefficients: &mut [F], root: F)
     requires { 0 < length coefficients.old }
     ensures { coefficients.new ≡ times_root F.Field.ops root (take (length coefficients.old - 1) coefficients.old) }
 {
-    let top = coefficients.len() - 1;
-    coefficients[top] = F::one();
+    *coefficients.last_mut().unwrap() = F::one();
     let mut before = F::zero();
-    for i in 0..coefficients.len() {
-        let here = coefficients[i];
-        coefficients[i] = before.add(root.multiply(here).negate());
+    for coefficient in coefficients.iter_mut() {
+        let here = *coefficient;
+        *coefficient = before.add(root.multiply(here).negate());
         before = here;
     }
 }
@@ -39,9 +32,9 @@ pub(crate) fn fill_roots<F: Field>(x: &[F], coefficients: &mut [F])
     ensures { coefficients.new ≡ rooted F.Field.ops x.now }
 {
     let mut degree = 0;
-    for i in 0..x.len() {
-        if x[i].number() != 0 {
-            times_root(&mut coefficients[..degree + 1], F::element(i as u16));
+    for (i, element) in x.iter().enumerate() {
+        if element.number() != 0 {
+            times_root(&mut coefficients[..=degree], F::element(i as u16));
             degree += 1;
         }
     }

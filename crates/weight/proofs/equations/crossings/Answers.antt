@@ -1,18 +1,6 @@
 use Rattle.std.proofs.Common.{arith}
-use Rattle.lock.proofs.Listed.{below_more, is-listed_all}
-use Rattle.weight.proofs.Placed.{times_read, sum_read}
+use Rattle.lock.proofs.Listed.{is-listed_all}
 use Rattle.weight.proofs.equations.crossings.Goals as goal
 
-pub loop-j-preserved : goal.loop-j-preserved
-loop-j-preserved g c =
-    let o = g.F.Field.ops in
-    let j = c.loop-j.j in
-    let first = times_read o c.args.x.now c.args.r.now j c.index-x-j.result c.index-r-j.result c.multiply.result
-    (omega arith) (omega arith) c.index-x-j.is c.index-r-j.is c.multiply.ensures in
-    let second = times_read o c.args.y.now c.args.q.now j c.index-y-j.result c.index-q-j.result c.multiply-in-loop-j.result
-    (omega arith) (omega arith) c.index-y-j.is c.index-q-j.is c.multiply-in-loop-j.ensures in
-    let value = sum_read o c.multiply.result c.multiply-in-loop-j.result _ _ c.add.result first second c.add.ensures in
-    below_more _ o.zero j c.loop-j.out c.add.result (omega arith) value c.loop-j.invariant
-
 pub returns : goal.returns
-returns g c = is-listed_all _ _ c.loop-j.out g.F.Field.ops.zero (omega arith) (λ t h. c.loop-j.invariant t (omega arith))
+returns g c = is-listed_all _ _ _ g.F.Field.ops.zero (omega arith) (λ t h. c.loop-j.invariant t (omega arith))

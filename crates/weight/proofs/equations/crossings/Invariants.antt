@@ -5,4 +5,4 @@ use Rattle.weight.proofs.equations.crossings.Given as goal
 abbrev pub invariant-loop-j : goal.invariant-loop-j
 invariant-loop-j g l =
     let o = g.F.Field.ops in
-    Below (λ j. o.plus (o.times (item o l.x j) (item o l.r j)) (o.times (item o l.y j) (item o l.q j))) o.zero l.j l.out
+    Below (λ j. o.plus (o.times (item o l.one.word.now j) (item o l.zero.locators.now j)) (o.times (item o l.zero.word.now j) (item o l.one.locators.now j))) o.zero l.j l.out

@@ -1,6 +1,0 @@
-use Rattle.std.proofs.Common.{length}
-use Rattle.regular.proofs.Walks.{Row}
-use Rattle.regular.proofs.walk.row.Given as goal
-
-abbrev pub invariant-loop-t : goal.invariant-loop-t
-invariant-loop-t g l = Row (g.V.View.value l.view) l.i l.start (length l.initial.out) l.t l.out
