@@ -1,0 +1,47 @@
+-- Writers, one call after another. Assumes nothing.
+use Rattle.std.proofs.Common.{◌≡◌, ℕ, ◌+◌, ◌≤◌, List, [], ◌++◌, length, take, drop, sym, refl, ap, ◌∙◌, ap₂, arith}
+use lib.Seq.{paste}
+use Rattle.std.proofs.lemmas.List.Edits.{paste_all, paste-paste}
+use Rattle.std.proofs.lemmas.List.{length-append, take-append-drop}
+use Rattle.records.specs.declared.writer.Writer.{Writer}
+use Rattle.records.specs.Formats.{written}
+use Rattle.records.specs.Writers.{Wrote}
+
+-- two pieces written one after the other
+written_join : (out a b : List ℕ) (at n : ℕ) → n ≡ at + length a → at ≤ length out → written (written out at a) n b ≡ written out at (a ++ b)
+written_join out a b at n e h =
+    let i = length a in
+    let j = length b in
+    ap₂ (λ (l : List ℕ) (k : ℕ). written l k b) (sym (paste_all out at a i refl)) e
+    ∙ sym (paste_all (paste out at a i) (at + i) b j refl)
+    ∙ paste-paste out at a b i j refl refl h
+    ∙ paste_all out at (a ++ b) (i + j) (sym (length-append a b))
+    ∙ ap (λ (k : ℕ). take at out ++ (a ++ b ++ drop (at + k) out)) (sym (length-append a b))
+
+pub wrote_nothing : (w : Writer) → Wrote w [] w
+wrote_nothing w =
+    let same : w.at + 0 ≡ w.at = omega arith in
+    record {
+      lent = refl;
+      long = refl;
+      place = sym same;
+      after = record { is = rw same (sym (take-append-drop w.at w.out.now)) };
+    }
+
+-- a second call goes on where the first one ended
+pub wrote_more : {a b c : Writer} {x y : List ℕ} → Wrote a x b → Wrote b y c → a.at ≤ length a.out.now → Wrote a (x ++ y) c
+wrote_more {a} {b} {c} {x} {y} p q h = record {
+  lent = q.lent ∙ p.lent;
+  long = q.long ∙ p.long;
+  place = omega (arith, p.place, q.place, length-append x y);
+  after = record { is = q.after.is ∙ ap (λ (l : List ℕ). written l b.at y) p.after.is ∙ written_join a.out.now x y a.at b.at p.place h };
+}
+
+-- what is written is equal
+pub wrote_same : {a b : Writer} {x y : List ℕ} → x ≡ y → Wrote a x b → Wrote a y b
+wrote_same {a} {b} {x} {y} e p = record {
+  lent = p.lent;
+  long = p.long;
+  place = p.place ∙ ap (λ (l : List ℕ). a.at + length l) e;
+  after = record { is = p.after.is ∙ ap (written a.out.now a.at) e };
+}
