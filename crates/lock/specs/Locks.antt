@@ -60,8 +60,3 @@ module _ {F : Type 0} (o : Ops F) (l : Forms F) where
         → Satisfies o p x → word o p o.one (l.secret p.shape x) ≡ x
     pub solves : (p : Problem F) (x : List F) → sound l p.shape ≡ true → Fits p → length x ≡ p.shape.m → l.wanted p.shape x ≡ true
         → Satisfies o p x → l.Solves p (l.secret p.shape x)
-
--- what was answered for a word: whether it is wanted, and if so its secret
-pub record Secret {F : Type 0} (l : Forms F) (s : Shape) (x : List F) (answer : Bool) (u : List F) : Type 0 where
-  pub tells : answer ≡ l.wanted s x
-  pub unknowns : answer ≡ true → u ≡ l.secret s x

@@ -5,9 +5,11 @@ pub mod instance;
 pub mod limits;
 pub mod lock;
 pub mod profile;
+pub mod sound;
 pub mod theorems;
 pub mod word;
 
 pub use instance::Instance;
 pub use lock::Lock;
 pub use profile::{Codes, Profile, Shape};
+pub use sound::Sound;

@@ -1,19 +1,11 @@
 // Whether the numbers of a profile are within their limits. Ranges are tested before anything is computed from the numbers.
 ghost use Rattle.std.specs.Prelude.{◌≡◌, ◌≤◌};
 ghost use Rattle.lock.specs.Locks.{sound as sound_for, within as within_for};
-ghost use Rattle.lock.specs.Profiles.{ranged as ranged_of, repeated as repeated_of, rounds as rounds_of, same_codes};
+ghost use Rattle.lock.specs.Profiles.{ranged as ranged_of, repeated as repeated_of, rounds as rounds_of};
 
 use crate::lock::Lock;
-use crate::profile::{Codes, Profile, Shape};
+use crate::profile::{Profile, Shape};
 use algebra::Field;
-
-impl Codes {
-    pub fn agree(self, other: Codes) -> bool
-        ensures { result ≡ same_codes self other }
-    {
-        self.field == other.field && self.lock == other.lock && self.expander == other.expander
-    }
-}
 
 impl Shape {
     // m, k and w are in the ranges that every lock has.

@@ -1,7 +1,7 @@
 // The numbers that a key pair is made for.
 
 // By which a record names its field, lock and expander.
-#[derive(Clone, Copy)]
+#[derive(Clone, Copy, PartialEq, Eq)]
 pub struct Codes {
     pub field: u8,
     pub lock: u8,
@@ -9,7 +9,7 @@ pub struct Codes {
 }
 
 // The numbers of a lock: the word x has m elements, k of them are free, and w is its weight or the number of its blocks.
-#[derive(Clone, Copy)]
+#[derive(Clone, Copy, PartialEq, Eq)]
 pub struct Shape {
     pub m: u16,
     pub k: u16,
@@ -17,7 +17,7 @@ pub struct Shape {
 }
 
 // There are 2^a places and 2^b rounds; the batching has rho rows, and a cover at most t nodes.
-#[derive(Clone, Copy)]
+#[derive(Clone, Copy, PartialEq, Eq)]
 pub struct Profile {
     pub codes: Codes,
     pub shape: Shape,

@@ -1,6 +1,6 @@
 // The word that unknowns stand for, and the product of the matrix with a list.
 ghost use Rattle.std.specs.Prelude.{◌≡◌, ℕ, ◌-◌, ◌*◌, ◌≤◌, true, length};
-ghost use Rattle.lock.specs.Instances.{Fits, given, word};
+ghost use Rattle.lock.specs.Instances.{given, word};
 ghost use Rattle.lock.specs.Products.{Added, BoundPart};
 ghost use Rattle.lock.specs.Profiles.{ranged};
 
@@ -24,7 +24,6 @@ pub fn add_columns<F: Field>(matrix: &[F], factors: &[F], sums: &mut [F])
 
 // y s - H' x_A, from x_A.
 fn fill_bound<F: Field>(problem: &Instance<F>, s: F, free: &[F], out: &mut [F])
-    requires fits { Fits (given problem.now) }
     requires free { length free.now ≡ problem.now.shape.k }
     requires room { length out.old ≡ problem.now.shape.m - problem.now.shape.k }
     ensures { BoundPart F.Field.ops (given problem.now) s free.now out.new }
@@ -40,7 +39,6 @@ fn fill_bound<F: Field>(problem: &Instance<F>, s: F, free: &[F], out: &mut [F])
 // The word x at a level s: the first k unknowns, and then y s - H' x_A.
 pub fn fill_word<F: Field>(problem: &Instance<F>, s: F, u: &[F], x: &mut [F])
     requires ranged { ranged problem.now.shape ≡ true }
-    requires fits { Fits (given problem.now) }
     requires enough { problem.now.shape.k ≤ length u.now }
     requires room { length x.old ≡ problem.now.shape.m }
     ensures { x.new ≡ word F.Field.ops (given problem.now) s u.now }

@@ -10,7 +10,8 @@ use crate::level::{Crossing, Level};
 use crate::walk::{blocks, per_block};
 use algebra::Field;
 use lock::word::fill_word;
-use lock::{Instance, Lock, Shape};
+use lock::{Instance, Lock, Shape, Sound};
+use refusal::Refusal;
 
 pub struct Regular;
 
@@ -47,12 +48,12 @@ impl<F: Field> Lock<F> for Regular {
         shape.k as usize
     }
 
-    fn equations(shape: Shape) -> usize {
-        shape.w as usize * per_block(side(shape))
+    fn equations(sound: &Sound<F, Self>) -> usize {
+        sound.shape.w as usize * per_block(side(sound.shape))
     }
 
-    fn part_count(shape: Shape) -> usize {
-        shape.m as usize + 1
+    fn part_count(sound: &Sound<F, Self>) -> usize {
+        sound.shape.m as usize + 1
     }
 
     fn parts(problem: &Instance<F>, s: F, u: &[F], out: &mut [F]) {
@@ -61,19 +62,27 @@ impl<F: Field> Lock<F> for Regular {
         out[m] = s;
     }
 
-    fn values(shape: Shape, parts: &[F], out: &mut [F]) {
-        let level = Level::of(parts, shape.m as usize);
-        blocks(&level, side(shape), shape.w as usize, out);
+    fn values(sound: &Sound<F, Self>, parts: &[F], out: &mut [F]) {
+        let level = Level::of(parts, sound.shape.m as usize);
+        blocks(&level, side(sound.shape), sound.shape.w as usize, out);
     }
 
-    fn crosses(shape: Shape, ones: &[F], zeros: &[F], out: &mut [F]) {
-        let one = Level::of(ones, shape.m as usize);
-        let zero = Level::of(zeros, shape.m as usize);
-        blocks(&Crossing { one, zero }, side(shape), shape.w as usize, out);
+    fn crosses(sound: &Sound<F, Self>, ones: &[F], zeros: &[F], out: &mut [F]) {
+        let one = Level::of(ones, sound.shape.m as usize);
+        let zero = Level::of(zeros, sound.shape.m as usize);
+        blocks(
+            &Crossing { one, zero },
+            side(sound.shape),
+            sound.shape.w as usize,
+            out,
+        );
     }
 
-    fn secret(shape: Shape, x: &[F], u: &mut [F]) -> bool {
-        u.copy_from_slice(&x[0..shape.k as usize]);
-        all_hot(x, side(shape), shape.w as usize)
+    fn secret(sound: &Sound<F, Self>, x: &[F], u: &mut [F]) -> Result<(), Refusal> {
+        if !all_hot(x, side(sound.shape), sound.shape.w as usize) {
+            return Err(Refusal::NoSolution);
+        }
+        u.copy_from_slice(&x[0..sound.shape.k as usize]);
+        Ok(())
     }
 }

@@ -9,7 +9,8 @@ use crate::locator::fill_locators;
 use crate::roots::{fill_roots, weight_of};
 use algebra::Field;
 use lock::word::fill_word;
-use lock::{Instance, Lock, Shape};
+use lock::{Instance, Lock, Shape, Sound};
+use refusal::Refusal;
 
 // The lock of the words that have at most w elements other than zero.
 pub struct Weight;
@@ -39,12 +40,12 @@ impl<F: Field> Lock<F> for Weight {
         shape.k as usize + shape.w as usize
     }
 
-    fn equations(shape: Shape) -> usize {
-        shape.m as usize
+    fn equations(sound: &Sound<F, Self>) -> usize {
+        sound.shape.m as usize
     }
 
-    fn part_count(shape: Shape) -> usize {
-        2 * shape.m as usize
+    fn part_count(sound: &Sound<F, Self>) -> usize {
+        2 * sound.shape.m as usize
     }
 
     fn parts(problem: &Instance<F>, s: F, u: &[F], out: &mut [F]) {
@@ -54,24 +55,24 @@ impl<F: Field> Lock<F> for Weight {
         fill_word(problem, s, u, &mut out[..m]);
     }
 
-    fn values(shape: Shape, parts: &[F], out: &mut [F]) {
-        let m = shape.m as usize;
+    fn values(sound: &Sound<F, Self>, parts: &[F], out: &mut [F]) {
+        let m = sound.shape.m as usize;
         products(&parts[..m], &parts[m..], out);
     }
 
-    fn crosses(shape: Shape, ones: &[F], zeros: &[F], out: &mut [F]) {
-        let m = shape.m as usize;
+    fn crosses(sound: &Sound<F, Self>, ones: &[F], zeros: &[F], out: &mut [F]) {
+        let m = sound.shape.m as usize;
         crossings(&ones[..m], &ones[m..], &zeros[..m], &zeros[m..], out);
     }
 
-    fn secret(shape: Shape, x: &[F], u: &mut [F]) -> bool {
-        if weight_of(x) != shape.w as usize {
-            return false;
+    fn secret(sound: &Sound<F, Self>, x: &[F], u: &mut [F]) -> Result<(), Refusal> {
+        if weight_of(x) != sound.shape.w as usize {
+            return Err(Refusal::NoSolution);
         }
-        let k = shape.k as usize;
+        let k = sound.shape.k as usize;
         u[..k].copy_from_slice(&x[..k]);
         fill_roots(x, &mut u[k..]);
-        true
+        Ok(())
     }
 }
 

@@ -5,7 +5,7 @@ use Rattle.regular.proofs.regular.RegularLock.crosses.Goals as goal
 
 pub blocks-requires : goal.blocks-requires
 blocks-requires g c =
-    let z = sizes_at g.F.Field.ops c.args.shape c.side.result c.requires.sound c.side.ensures in
+    let z = sizes_at g.F.Field.ops c.args.sound.now.shape c.side.result c.args.sound.now.sound c.side.ensures in
     let most = z.range.m_high in
     let low = z.low in
     let even = z.even in
@@ -15,6 +15,6 @@ blocks-requires g c =
 
 pub returns : goal.returns
 returns g c =
-    crosses-listed g.F.Field.ops c.args.shape c.side.result c.args.ones.now c.args.zeros.now c.of-one.result.word.now
+    crosses-listed g.F.Field.ops c.args.sound.now.shape c.side.result c.args.ones.now c.args.zeros.now c.of-one.result.word.now
     c.of-zero.result.word.now c.blocks-2.new.out c.of-one.result.level c.of-zero.result.level c.side.ensures
     c.of-one.ensures.value c.of-zero.ensures.value c.blocks-2.ensures

@@ -5,7 +5,7 @@ use Rattle.regular.proofs.regular.RegularLock.values.Goals as goal
 
 pub blocks-requires : goal.blocks-requires
 blocks-requires g c =
-    let z = sizes_at g.F.Field.ops c.args.shape c.side.result c.requires.sound c.side.ensures in
+    let z = sizes_at g.F.Field.ops c.args.sound.now.shape c.side.result c.args.sound.now.sound c.side.ensures in
     let most = z.range.m_high in
     let low = z.low in
     let even = z.even in
@@ -14,5 +14,5 @@ blocks-requires g c =
 
 pub returns : goal.returns
 returns g c =
-    values_listed g.F.Field.ops c.args.shape c.side.result c.args.parts.now c.of-level.result.word.now c.blocks-2.new.out
+    values_listed g.F.Field.ops c.args.sound.now.shape c.side.result c.args.parts.now c.of-level.result.word.now c.blocks-2.new.out
     c.of-level.result.level c.side.ensures c.of-level.ensures.value c.blocks-2.ensures
