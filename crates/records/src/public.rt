@@ -86,7 +86,7 @@ fn check_profile<F: Field, L: Lock<F>>(
 ) -> Result<(), Refusal>
     ensures { Tells (profile_rows L.Lock.forms codes profile.now size) (λ _. (within L.Lock.forms profile.now ≡ true) × (size ≡ 30 + (profile.now.shape.m - profile.now.shape.k))) result }
 {
-    if !profile.codes.agree(codes) {
+    if profile.codes != codes {
         return Err(Refusal::Code);
     }
     if !profile.within::<F, L>() {
