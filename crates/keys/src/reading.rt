@@ -21,7 +21,7 @@ fn read_front<F: Field>(bytes: &[u8], n: usize, unknowns: &mut [F]) -> Result<()
     requires { n ≤ length unknowns.old }
     ensures { Tells (secret_rows F.Field.ops n bytes.now) (λ _. take n unknowns.new ≡ secret_value F.Field.ops bytes.now) result }
 {
-    read_secret(bytes, &mut unknowns[0..n])
+    read_secret(bytes, &mut unknowns[..n])
 }
 
 impl<F: Field> Workspace<F> {
@@ -45,9 +45,7 @@ impl<F: Field> Workspace<F> {
     {
         let head = self.read_public::<L, E>(public)?;
         let n = L::unknowns(head.profile.shape);
-        match read_front(secret, n, self.unknowns.as_mut_slice()) {
-            Ok(()) => Ok(head),
-            Err(refusal) => Err(refusal),
-        }
+        read_front(secret, n, self.unknowns.as_mut_slice())?;
+        Ok(head)
     }
 }

@@ -4,7 +4,7 @@ use lib.Seq.{paste}
 use Rattle.std.proofs.lemmas.List.Edits.{paste_all, paste-paste}
 use Rattle.std.proofs.lemmas.List.{length-append, take-append-drop}
 use Rattle.records.specs.declared.writer.Writer.{Writer}
-use Rattle.records.specs.Formats.{written}
+use Rattle.records.specs.Formats.{written, Puts}
 use Rattle.records.specs.Writers.{Wrote}
 
 -- two pieces written one after the other
@@ -45,3 +45,7 @@ wrote_same {a} {b} {x} {y} e p = record {
   place = p.place ∙ ap (λ (l : List ℕ). a.at + length l) e;
   after = record { is = p.after.is ∙ ap (written a.out.now a.at) e };
 }
+
+-- what was written from the front on is what the lent bytes begin with
+pub wrote_front : {a b : Writer} {x was now : List ℕ} → Wrote a x b → a.out.now ≡ was → a.at ≡ 0 → now ≡ b.out.now → Puts was 0 x now
+wrote_front {a} {b} {x} {was} {now} p e z f = record { is = f ∙ p.after.is ∙ ap₂ (λ (l : List ℕ) (k : ℕ). written l k x) e z }
