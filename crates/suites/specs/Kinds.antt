@@ -1,5 +1,6 @@
 -- The codes of fields, locks and expanders. Assumes nothing.
-use Rattle.std.specs.Prelude.{ℕ, Bool, ◌||◌, ◌==◌}
+use Rattle.std.specs.Prelude.{ℕ, Bool, ◌||◌, ◌&&◌, ◌==◌}
+use Rattle.lock.specs.declared.profile.Codes.{Codes}
 use Rattle.suites.specs.declared.kinds.FieldKind.{FieldKind}
 use Rattle.suites.specs.declared.kinds.FieldKind.TheVariants.{Gf256, Mod251}
 use Rattle.suites.specs.declared.kinds.LockKind.{LockKind}
@@ -10,6 +11,10 @@ use Rattle.suites.specs.declared.kinds.ExpanderKind.TheVariants.{Aes, Shake}
 -- there is a field, a lock or an expander with this code
 abbrev pub named : ℕ → Bool
 named code = code == 1 || code == 2
+
+-- there are all three with these codes
+abbrev pub known : Codes → Bool
+known c = named c.field && (named c.lock && named c.expander)
 
 abbrev pub field_code : FieldKind → ℕ
 field_code Gf256 = 1

@@ -1,5 +1,5 @@
 -- Fields, locks and expanders by their codes. Assumes nothing.
-use Rattle.std.specs.Prelude.{◌≡◌, ℕ, List, Ok, Err, Result}
+use Rattle.std.specs.Prelude.{◌≡◌, ℕ, true, List, IfOk, Ok, Err, Result}
 use Rattle.refusal.specs.declared.Refusal.{Refusal}
 use Rattle.algebra.specs.Fields.{Ops}
 use Rattle.algebra.specs.declared.elements.Gf256.{Gf256}
@@ -8,7 +8,12 @@ use Rattle.algebra.specs.Binary.{binary, first}
 use Rattle.algebra.specs.Prime.{prime, first_below}
 use Rattle.expander.specs.Blocks.{aes_block, shake_block}
 use Rattle.lock.specs.declared.profile.Codes.{Codes}
-use Rattle.lock.specs.Locks.{Forms}
+use Rattle.lock.specs.Locks.{Forms, within}
+use Rattle.records.specs.declared.head.PublicHead.{PublicHead}
+use Rattle.records.specs.Publics.{PublicKey}
+use Rattle.keys.specs.declared.request.KeyRequest.{KeyRequest}
+use Rattle.keys.specs.declared.sizes.KeySizes.{KeySizes}
+use Rattle.keys.specs.Making.{Made, ReadsBack}
 use Rattle.regular.specs.Regular.{regular}
 use Rattle.weight.specs.Weight.{weight}
 use Rattle.suites.specs.declared.failure.Failure.{Failure}
@@ -37,3 +42,16 @@ abbrev pub But : {T : Type 0} → (Result T Refusal → Type 0) → Result T Fai
 But P (Ok x) = P (Ok x)
 But P (Err (Refused e)) = P (Err e)
 But P (Err NoMemory) = Unit {0}
+
+module _ {F : Type 0} where
+  -- what is told of a public record beside its elements
+  pub record IsHead (l : Forms F) (k : PublicKey F) (h : PublicHead) : Type 0 where
+    pub profile : h.profile ≡ k.profile
+    pub seed : h.matrix_seed ≡ k.seed
+    pub limits : within l h.profile ≡ true
+
+  module _ (sampled : List ℕ → F × ℕ) (block : List ℕ → List ℕ → ℕ → List ℕ) (o : Ops F) (l : Forms F) where
+    -- what a call is answered that asks for a key pair, and that what was written reads back
+    pub record Makes (c : Codes) (asked : KeyRequest) (was now : List ℕ) (r : Result KeySizes Refusal) : Type 0 where
+      pub made : Made sampled block o l c asked was now r
+      pub reads : IfOk r (λ s. ReadsBack sampled block o l c now s)

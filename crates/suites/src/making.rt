@@ -1,4 +1,8 @@
 // Making a key pair by the codes of its profile.
+ghost use Rattle.std.specs.Prelude.{◌≡◌, false, OnErr};
+ghost use Rattle.suites.specs.Kinds.{known};
+ghost use Rattle.suites.specs.Suites.{Over, But, Makes};
+
 use crate::failure::Failure;
 use crate::work::{Work, pick};
 use algebra::Field;
@@ -8,32 +12,31 @@ use lock::{Codes, Lock};
 use refusal::Refusal;
 use std::alloc::Global;
 
-// A key pair that is asked for, and where its records go.
-#[derive(Drop)]
-struct MakeKey<'r, 'o> {
-    request: &'r KeyRequest<'r>,
-    out: &'o mut [u8],
-}
-
-impl Work for MakeKey<'_, '_> {
+// A key pair is made for what is asked for.
+impl Work for KeyRequest<'_> {
     type Answer = KeySizes;
 
-    ghost says = { λ o sampled l block codes was now r. Unit {0} };
+    ghost says = { λ o sampled l block codes asked was now r. Makes sampled block o l codes asked was now r };
 
     fn run<F: Field, L: Lock<F>, E: Expander>(
-        &mut self,
+        &self,
         memory: &mut Workspace<F>,
+        out: &mut [u8],
     ) -> Result<KeySizes, Refusal> {
-        memory.make::<L, E>(self.request, &mut *self.out)
+        memory.make::<L, E>(self, out)
     }
 }
 
-// Makes a key pair with the field, lock and expander that the codes name.
+// Makes a key pair with the field, lock and expander that the codes name. A failure leaves the output as it was.
 pub fn make_key(
     heap: Global,
     codes: Codes,
     request: &KeyRequest,
     out: &mut [u8],
-) -> Result<KeySizes, Failure> {
-    pick(heap, codes, &mut MakeKey { request, out })
+) -> Result<KeySizes, Failure>
+    ensures answers { Over codes (λ F o sampled l block. But (Makes sampled block o l codes request.now out.old out.new) result) }
+    ensures unknown { known codes ≡ false → result ≡ Err (Failure.Refused Refusal.Code) }
+    ensures same { OnErr result (out.new ≡ out.old) }
+{
+    pick(heap, codes, request, out)
 }

@@ -1,10 +1,12 @@
 // Work over a field, a lock and an expander that codes name.
-ghost use Rattle.std.specs.Prelude.{ℕ, List, Result};
+ghost use Rattle.std.specs.Prelude.{◌≡◌, ℕ, false, List, Result, OnErr};
 ghost use Rattle.algebra.specs.Fields.{Ops};
 ghost use Rattle.lock.specs.Locks.{Forms};
 ghost use Rattle.lock.specs.declared.profile.Codes.{Codes};
 ghost use Rattle.refusal.specs.declared.Refusal.{Refusal};
 ghost use Rattle.keys.specs.Making.{coded};
+ghost use Rattle.suites.specs.Kinds.{known, lock_code, expander_code};
+ghost use Rattle.suites.specs.Suites.{Over, OverLock, OverExpander, But};
 
 use crate::failure::Failure;
 use crate::kinds::{ExpanderKind, FieldKind, LockKind};
@@ -17,36 +19,47 @@ use regular::Regular;
 use std::alloc::Global;
 use weight::Weight;
 
-// What can be done over any field, lock and expander, in working memory that is lent.
+// What can be done over any field, lock and expander, in working memory that is lent. What it writes goes to `out`.
 pub(crate) trait Work {
     type Answer;
 
-    // What the answer is over a field, a lock and an expander with these codes, and what becomes of the work.
-    ghost says: { {F : Type 0} → Ops F → (List ℕ → F × ℕ) → Forms F → (List ℕ → List ℕ → ℕ → List ℕ) → Codes → Self → Self → Result Self.Answer Refusal → Type 0 };
+    // What is answered over a field, a lock and an expander with these codes, where `out` is the first list before and the second after.
+    ghost says: { {F : Type 0} → Ops F → (List ℕ → F × ℕ) → Forms F → (List ℕ → List ℕ → ℕ → List ℕ) → Codes → Self → List ℕ → List ℕ → Result Self.Answer Refusal → Type 0 };
 
     fn run<F: Field, L: Lock<F>, E: Expander>(
-        &mut self,
+        &self,
         memory: &mut Workspace<F>,
+        out: &mut [u8],
     ) -> Result<Self::Answer, Refusal>
-        ensures { says F.Field.ops F.Field.sampled L.Lock.forms E.Expander.block (coded F.Field.named L.Lock.named E.Expander.named) self.old self.new result };
+        ensures answers { says F.Field.ops F.Field.sampled L.Lock.forms E.Expander.block (coded F.Field.named L.Lock.named E.Expander.named) self.now out.old out.new result }
+        ensures same { OnErr result (out.new ≡ out.old) };
 }
 
 fn run<F: Field, L: Lock<F>, E: Expander, W: Work>(
     heap: Global,
-    work: &mut W,
-) -> Result<W::Answer, Failure> {
+    work: &W,
+    out: &mut [u8],
+) -> Result<W::Answer, Failure>
+    ensures answers { But (W.says F.Field.ops F.Field.sampled L.Lock.forms E.Expander.block (coded F.Field.named L.Lock.named E.Expander.named) work.now out.old out.new) result }
+    ensures same { OnErr result (out.new ≡ out.old) }
+{
     let mut memory = Workspace::new(heap)?;
-    Ok(work.run::<F, L, E>(&mut memory)?)
+    Ok(work.run::<F, L, E>(&mut memory, out)?)
 }
 
 fn over_lock<F: Field, L: Lock<F>, W: Work>(
     heap: Global,
     expander: ExpanderKind,
-    work: &mut W,
-) -> Result<W::Answer, Failure> {
+    work: &W,
+    out: &mut [u8],
+) -> Result<W::Answer, Failure>
+    ensures answers { let e = expander_code expander in
+        OverExpander e (λ block. But (W.says F.Field.ops F.Field.sampled L.Lock.forms block (coded F.Field.named L.Lock.named e) work.now out.old out.new) result) }
+    ensures same { OnErr result (out.new ≡ out.old) }
+{
     match expander {
-        ExpanderKind::Aes => run::<F, L, AesExpander, W>(heap, work),
-        ExpanderKind::Shake => run::<F, L, ShakeExpander, W>(heap, work),
+        ExpanderKind::Aes => run::<F, L, AesExpander, W>(heap, work, out),
+        ExpanderKind::Shake => run::<F, L, ShakeExpander, W>(heap, work, out),
     }
 }
 
@@ -54,11 +67,16 @@ fn over_field<F: Field, W: Work>(
     heap: Global,
     lock: LockKind,
     expander: ExpanderKind,
-    work: &mut W,
-) -> Result<W::Answer, Failure> {
+    work: &W,
+    out: &mut [u8],
+) -> Result<W::Answer, Failure>
+    ensures answers { let c = coded F.Field.named (lock_code lock) (expander_code expander) in
+        OverLock F.Field.ops c.lock (λ l. OverExpander c.expander (λ block. But (W.says F.Field.ops F.Field.sampled l block c work.now out.old out.new) result)) }
+    ensures same { OnErr result (out.new ≡ out.old) }
+{
     match lock {
-        LockKind::Weight => over_lock::<F, Weight, W>(heap, expander, work),
-        LockKind::Regular => over_lock::<F, Regular, W>(heap, expander, work),
+        LockKind::Weight => over_lock::<F, Weight, W>(heap, expander, work, out),
+        LockKind::Regular => over_lock::<F, Regular, W>(heap, expander, work, out),
     }
 }
 
@@ -66,13 +84,18 @@ fn over_field<F: Field, W: Work>(
 pub(crate) fn pick<W: Work>(
     heap: Global,
     codes: Codes,
-    work: &mut W,
-) -> Result<W::Answer, Failure> {
+    work: &W,
+    out: &mut [u8],
+) -> Result<W::Answer, Failure>
+    ensures answers { Over codes (λ F o sampled l block. But (W.says o sampled l block codes work.now out.old out.new) result) }
+    ensures unknown { known codes ≡ false → result ≡ Err (Failure.Refused Refusal.Code) }
+    ensures same { OnErr result (out.new ≡ out.old) }
+{
     let field = codes.field.try_into()?;
     let lock = codes.lock.try_into()?;
     let expander = codes.expander.try_into()?;
     match field {
-        FieldKind::Gf256 => over_field::<Gf256, W>(heap, lock, expander, work),
-        FieldKind::Mod251 => over_field::<Mod251, W>(heap, lock, expander, work),
+        FieldKind::Gf256 => over_field::<Gf256, W>(heap, lock, expander, work, out),
+        FieldKind::Mod251 => over_field::<Mod251, W>(heap, lock, expander, work, out),
     }
 }
