@@ -26,6 +26,8 @@ fn fill_target<F: Field>(shape: Shape, matrix: &[F], x: &[F], target: &mut [F])
     add_columns(matrix, free, target);
 }
 
+// A proof loses a `Vec` of which a part is lent, so that what follows takes the whole of a memory and writes to its front.
+
 // The elements of a word, at the front of lent memory.
 fn read_word<F: Field>(x: &[u8], word: &mut [F])
     requires { length x.now ≤ length word.old }

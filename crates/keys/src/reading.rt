@@ -16,7 +16,7 @@ use records::public::read_public;
 use records::secret::read_secret;
 use refusal::Refusal;
 
-// Reads a secret record of n unknowns to the front of lent memory.
+// Reads a secret record of n unknowns to the front of lent memory. It takes the whole, since a proof loses a `Vec` of which a part is lent.
 fn read_front<F: Field>(bytes: &[u8], n: usize, unknowns: &mut [F]) -> Result<(), Refusal>
     requires { n ≤ length unknowns.old }
     ensures { Tells (secret_rows F.Field.ops n bytes.now) (λ _. take n unknowns.new ≡ secret_value F.Field.ops bytes.now) result }

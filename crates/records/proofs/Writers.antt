@@ -1,8 +1,8 @@
 -- Writers, one call after another. Assumes nothing.
-use Rattle.std.proofs.Common.{◌≡◌, ℕ, ◌+◌, ◌≤◌, List, [], ◌++◌, length, take, drop, sym, refl, ap, ◌∙◌, ap₂, arith}
+use Rattle.std.proofs.Common.{◌≡◌, ℕ, ◌+◌, ◌≤◌, List, ◌++◌, length, take, drop, sym, refl, ap, ◌∙◌, ap₂, arith}
 use lib.Seq.{paste}
 use Rattle.std.proofs.lemmas.List.Edits.{paste_all, paste-paste}
-use Rattle.std.proofs.lemmas.List.{length-append, take-append-drop}
+use Rattle.std.proofs.lemmas.List.{length-append}
 use Rattle.records.specs.declared.writer.Writer.{Writer}
 use Rattle.records.specs.Formats.{written, Puts}
 use Rattle.records.specs.Writers.{Wrote}
@@ -17,16 +17,6 @@ written_join out a b at n e h =
     ∙ paste-paste out at a b i j refl refl h
     ∙ paste_all out at (a ++ b) (i + j) (sym (length-append a b))
     ∙ ap (λ (k : ℕ). take at out ++ (a ++ b ++ drop (at + k) out)) (sym (length-append a b))
-
-pub wrote_nothing : (w : Writer) → Wrote w [] w
-wrote_nothing w =
-    let same : w.at + 0 ≡ w.at = omega arith in
-    record {
-      lent = refl;
-      long = refl;
-      place = sym same;
-      after = record { is = rw same (sym (take-append-drop w.at w.out.now)) };
-    }
 
 -- a second call goes on where the first one ended
 pub wrote_more : {a b c : Writer} {x y : List ℕ} → Wrote a x b → Wrote b y c → a.at ≤ length a.out.now → Wrote a (x ++ y) c

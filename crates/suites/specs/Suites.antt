@@ -1,6 +1,7 @@
 -- Fields, locks and expanders by their codes. Assumes nothing.
-use Rattle.std.specs.Prelude.{◌≡◌, ℕ, true, List, IfOk, Ok, Err, Result}
+use Rattle.std.specs.Prelude.{◌≡◌, ℕ, true, false, List, IfOk, Ok, Err, Result}
 use Rattle.refusal.specs.declared.Refusal.{Refusal}
+use Rattle.refusal.specs.declared.Refusal.TheVariants.{Code}
 use Rattle.algebra.specs.Fields.{Ops}
 use Rattle.algebra.specs.declared.elements.Gf256.{Gf256}
 use Rattle.algebra.specs.declared.elements.Mod251.{Mod251}
@@ -16,6 +17,7 @@ use Rattle.keys.specs.declared.sizes.KeySizes.{KeySizes}
 use Rattle.keys.specs.Making.{Made, ReadsBack}
 use Rattle.regular.specs.Regular.{regular}
 use Rattle.weight.specs.Weight.{weight}
+use Rattle.suites.specs.Kinds.{known}
 use Rattle.suites.specs.declared.failure.Failure.{Failure}
 use Rattle.suites.specs.declared.failure.Failure.TheVariants.{Refused, NoMemory}
 
@@ -42,6 +44,12 @@ abbrev pub But : {T : Type 0} → (Result T Refusal → Type 0) → Result T Fai
 But P (Ok x) = P (Ok x)
 But P (Err (Refused e)) = P (Err e)
 But P (Err NoMemory) = Unit {0}
+
+-- what a call is answered that works over the field, the lock and the expander that the codes name: there as P says of what their own call
+-- is answered, but for want of memory; codes that name none are refused
+pub record Answered {T : Type 0} (c : Codes) (P : (F : Type 0) → Ops F → (List ℕ → F × ℕ) → Forms F → (List ℕ → List ℕ → ℕ → List ℕ) → Result T Refusal → Type 0) (r : Result T Failure) : Type 0 where
+  pub over : Over c (λ F o sampled l block. But (P F o sampled l block) r)
+  pub unknown : known c ≡ false → r ≡ Err (Refused Code)
 
 module _ {F : Type 0} where
   -- what is told of a public record beside its elements

@@ -1,7 +1,6 @@
 // Making a key pair by the codes of its profile.
-ghost use Rattle.std.specs.Prelude.{◌≡◌, false, OnErr};
-ghost use Rattle.suites.specs.Kinds.{known};
-ghost use Rattle.suites.specs.Suites.{Over, But, Makes};
+ghost use Rattle.std.specs.Prelude.{◌≡◌, OnErr};
+ghost use Rattle.suites.specs.Suites.{Answered, Makes};
 
 use crate::failure::Failure;
 use crate::work::{Work, pick};
@@ -34,8 +33,7 @@ pub fn make_key(
     request: &KeyRequest,
     out: &mut [u8],
 ) -> Result<KeySizes, Failure>
-    ensures answers { Over codes (λ F o sampled l block. But (Makes sampled block o l codes request.now out.old out.new) result) }
-    ensures unknown { known codes ≡ false → result ≡ Err (Failure.Refused Refusal.Code) }
+    ensures answers { Answered codes (λ F o sampled l block. Makes sampled block o l codes request.now out.old out.new) result }
     ensures same { OnErr result (out.new ≡ out.old) }
 {
     pick(heap, codes, request, out)

@@ -1,11 +1,10 @@
 // Reading the records of a key by their codes.
-ghost use Rattle.std.specs.Prelude.{◌≡◌, false};
+ghost use Rattle.std.specs.Prelude.{◌≡◌};
 ghost use Rattle.refusal.specs.Rows.{Tells};
 ghost use Rattle.records.specs.Openings.{opening_rows};
 ghost use Rattle.records.specs.Publics.{profile_of, public_rows, public_value};
 ghost use Rattle.keys.specs.Pairs.{pair_rows};
-ghost use Rattle.suites.specs.Kinds.{known};
-ghost use Rattle.suites.specs.Suites.{Over, But, IsHead};
+ghost use Rattle.suites.specs.Suites.{Answered, IsHead};
 
 use crate::failure::Failure;
 use crate::work::{Work, pick};
@@ -62,8 +61,7 @@ impl Work for ReadPair<'_> {
 
 // Reads a public record with the field, lock and expander that the codes name.
 pub fn read_public(heap: Global, codes: Codes, bytes: &[u8]) -> Result<PublicHead, Failure>
-    ensures answers { Over codes (λ F o sampled l block. But (Tells (public_rows o l codes bytes.now) (IsHead l (public_value o bytes.now))) result) }
-    ensures unknown { known codes ≡ false → result ≡ Err (Failure.Refused Refusal.Code) }
+    ensures { Answered codes (λ F o sampled l block. Tells (public_rows o l codes bytes.now) (IsHead l (public_value o bytes.now))) result }
 {
     pick(heap, codes, &ReadPublic { bytes }, &mut [])
 }
@@ -75,8 +73,7 @@ pub fn read_pair(
     public: &[u8],
     secret: &[u8],
 ) -> Result<PublicHead, Failure>
-    ensures answers { Over codes (λ F o sampled l block. But (Tells (pair_rows o l codes public.now secret.now) (IsHead l (public_value o public.now))) result) }
-    ensures unknown { known codes ≡ false → result ≡ Err (Failure.Refused Refusal.Code) }
+    ensures { Answered codes (λ F o sampled l block. Tells (pair_rows o l codes public.now secret.now) (IsHead l (public_value o public.now))) result }
 {
     pick(heap, codes, &ReadPair { public, secret }, &mut [])
 }

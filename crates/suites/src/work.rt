@@ -1,12 +1,12 @@
 // Work over a field, a lock and an expander that codes name.
-ghost use Rattle.std.specs.Prelude.{◌≡◌, ℕ, false, List, Result, OnErr};
+ghost use Rattle.std.specs.Prelude.{◌≡◌, ℕ, List, Result, OnErr};
 ghost use Rattle.algebra.specs.Fields.{Ops};
 ghost use Rattle.lock.specs.Locks.{Forms};
 ghost use Rattle.lock.specs.declared.profile.Codes.{Codes};
 ghost use Rattle.refusal.specs.declared.Refusal.{Refusal};
 ghost use Rattle.keys.specs.Making.{coded};
-ghost use Rattle.suites.specs.Kinds.{known, lock_code, expander_code};
-ghost use Rattle.suites.specs.Suites.{Over, OverLock, OverExpander, But};
+ghost use Rattle.suites.specs.Kinds.{lock_code, expander_code};
+ghost use Rattle.suites.specs.Suites.{Answered, OverLock, OverExpander, But};
 
 use crate::failure::Failure;
 use crate::kinds::{ExpanderKind, FieldKind, LockKind};
@@ -35,7 +35,8 @@ pub(crate) trait Work {
         ensures same { OnErr result (out.new ≡ out.old) };
 }
 
-fn run<F: Field, L: Lock<F>, E: Expander, W: Work>(
+// Only this can fail for want of memory.
+fn run_in_new_memory<F: Field, L: Lock<F>, E: Expander, W: Work>(
     heap: Global,
     work: &W,
     out: &mut [u8],
@@ -58,8 +59,8 @@ fn over_lock<F: Field, L: Lock<F>, W: Work>(
     ensures same { OnErr result (out.new ≡ out.old) }
 {
     match expander {
-        ExpanderKind::Aes => run::<F, L, AesExpander, W>(heap, work, out),
-        ExpanderKind::Shake => run::<F, L, ShakeExpander, W>(heap, work, out),
+        ExpanderKind::Aes => run_in_new_memory::<F, L, AesExpander, W>(heap, work, out),
+        ExpanderKind::Shake => run_in_new_memory::<F, L, ShakeExpander, W>(heap, work, out),
     }
 }
 
@@ -87,8 +88,7 @@ pub(crate) fn pick<W: Work>(
     work: &W,
     out: &mut [u8],
 ) -> Result<W::Answer, Failure>
-    ensures answers { Over codes (λ F o sampled l block. But (W.says o sampled l block codes work.now out.old out.new) result) }
-    ensures unknown { known codes ≡ false → result ≡ Err (Failure.Refused Refusal.Code) }
+    ensures answers { Answered codes (λ F o sampled l block. W.says o sampled l block codes work.now out.old out.new) result }
     ensures same { OnErr result (out.new ≡ out.old) }
 {
     let field = codes.field.try_into()?;

@@ -1,7 +1,7 @@
 use Rattle.std.proofs.Common.{nat_lt, sym, ◌∙◌, rules, tests}
 use Rattle.std.proofs.lemmas.Iterator.{YieldsList-from_slice}
 use Rattle.std.proofs.lemmas.Iterator.Search.{all_from_yields_List}
-use Rattle.records.proofs.Loops.{below_all}
+use Rattle.records.proofs.Bounds.{below_all}
 use Rattle.records.proofs.elements.all_elements.Goals as goal
 
 pub returns : goal.returns
