@@ -9,6 +9,7 @@ use crate::sizes::KeySizes;
 use algebra::Field;
 use lock::{Codes, Lock, Profile};
 use records::elements::all_elements;
+use records::public::height;
 use refusal::Refusal;
 
 // The sizes of the two records of a profile.
@@ -17,7 +18,7 @@ fn sizes<F: Field, L: Lock<F>>(profile: &Profile) -> KeySizes
     ensures { result ≡ key_sizes L.Lock.forms profile.now }
 {
     KeySizes {
-        public: 35 + (profile.shape.m as usize - profile.shape.k as usize),
+        public: 35 + height(profile),
         secret: 5 + L::unknowns(profile.shape),
     }
 }

@@ -13,6 +13,7 @@ use crate::workspace::Workspace;
 use algebra::Field;
 use expander::Expander;
 use lock::{Codes, Lock, Sound};
+use records::public::height;
 use records::{PublicHead, Writer};
 use refusal::Refusal;
 
@@ -46,7 +47,7 @@ impl<F: Field> Workspace<F> {
         };
         let shape = head.profile.shape;
         self.fill::<L, E>(&Sound::new(shape), &head.matrix_seed, request.x)?;
-        let rows = shape.m as usize - shape.k as usize;
+        let rows = height(&head.profile);
         let n = L::unknowns(shape);
         put_key(
             out,

@@ -1,10 +1,18 @@
 -- Keys as values. Assumes nothing.
-use Rattle.std.proofs.Common.{◌≡◌, ℕ, ◌+◌, List, ◌∷◌, ◌++◌, map, length, sym, ap, ◌∙◌, arith}
+use Rattle.std.proofs.Common.{◌≡◌, ℕ, ◌+◌, List, ◌∷◌, ◌++◌, map, length, sym, ap, ◌∙◌, ap₂, arith}
 use Rattle.std.proofs.lemmas.List.{length-append, length-map}
 use Rattle.algebra.specs.Fields.{Ops}
+use Rattle.lock.specs.declared.profile.Profile.{Profile}
 use Rattle.records.specs.Openings.{four}
 use Rattle.records.specs.Publics.{PublicKey, profile_bytes, public_bytes}
 use Rattle.records.specs.Secrets.{secret_bytes}
+
+-- a key with these parts
+pub key_same : {F : Type 0} (k : PublicKey F) (p : Profile) (s : List ℕ) (y : List F) → p ≡ k.profile → s ≡ k.seed → y ≡ k.y
+    → record { profile = p; seed = s; y = y } ≡ k
+key_same {F} k p s y ep es ey =
+    let made : Profile → List ℕ → List F → PublicKey F = λ p s y. record { profile = p; seed = s; y = y } in
+    ap₂ (λ (p : Profile) (s : List ℕ). made p s y) ep es ∙ ap (made k.profile k.seed) ey
 
 module _ {F : Type 0} (o : Ops F) where
   -- the bytes of a record, one part after another

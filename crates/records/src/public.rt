@@ -2,7 +2,7 @@
 ghost use Rattle.std.specs.Prelude.{◌≡◌, ◌+◌, ◌-◌, ◌<◌, ◌≤◌, true, length};
 ghost use Rattle.lock.specs.Locks.{within};
 ghost use Rattle.refusal.specs.Rows.{Tells};
-ghost use Rattle.records.specs.Publics.{profile_value, profile_bytes, profile_rows, public_rows, public_value, public_bytes, key_of, Holds};
+ghost use Rattle.records.specs.Publics.{profile_value, profile_bytes, profile_rows, public_rows, public_value, public_bytes, height, key_of, Holds};
 ghost use Rattle.records.specs.Writers.{Wrote};
 
 use crate::elements::{all_elements, read_elements};
@@ -78,6 +78,14 @@ fn profile_bytes(p: &Profile) -> [u8; 14]
     ]
 }
 
+// How many elements y has.
+pub fn height(profile: &Profile) -> usize
+    requires { profile.now.shape.k ≤ profile.now.shape.m }
+    ensures { result ≡ height profile.now }
+{
+    profile.shape.m as usize - profile.shape.k as usize
+}
+
 // The rows that look at a profile: its codes, its limits, and the number of bytes after the version.
 fn check_profile<F: Field, L: Lock<F>>(
     profile: &Profile,
@@ -92,7 +100,7 @@ fn check_profile<F: Field, L: Lock<F>>(
     if !profile.within::<F, L>() {
         return Err(Refusal::Profile);
     }
-    if size != 30 + (profile.shape.m as usize - profile.shape.k as usize) {
+    if size != 30 + height(profile) {
         return Err(Refusal::BodyLength);
     }
     Ok(())
@@ -115,7 +123,7 @@ pub fn read_public<F: Field, L: Lock<F>>(
     if !all_elements::<F>(elements) {
         return Err(Refusal::Element);
     }
-    read_elements(elements, &mut y[0..elements.len()]);
+    read_elements(elements, &mut y[..elements.len()]);
     Ok(PublicHead {
         profile,
         matrix_seed: *seed,
@@ -130,8 +138,7 @@ impl Writer<'_> {
         ensures place { self.new.at ≡ self.old.at + (35 + length y.now) }
         ensures after { Wrote self.old (public_bytes F.Field.ops (key_of head.now y.now)) self.new }
     {
-        self.put_bytes(&(31 + y.len() as u32).to_be_bytes());
-        self.put_bytes(&[1]);
+        self.put_opening(30 + y.len());
         self.put_bytes(&profile_bytes(&head.profile));
         self.put_bytes(&head.matrix_seed);
         self.put_elements(y);

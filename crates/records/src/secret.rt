@@ -33,8 +33,7 @@ impl Writer<'_> {
         ensures place { self.new.at ≡ self.old.at + (5 + length u.now) }
         ensures after { Wrote self.old (secret_bytes F.Field.ops u.now) self.new }
     {
-        self.put_bytes(&(1 + u.len() as u32).to_be_bytes());
-        self.put_bytes(&[1]);
+        self.put_opening(u.len());
         self.put_elements(u);
     }
 }

@@ -1,5 +1,6 @@
 // Writing into lent bytes, one piece after another.
-ghost use Rattle.std.specs.Prelude.{◌≡◌, ◌+◌, ◌≤◌, map, length};
+ghost use Rattle.std.specs.Prelude.{◌≡◌, ◌+◌, ◌<◌, ◌≤◌, [], ◌∷◌, ◌++◌, map, length};
+ghost use Rattle.records.specs.Openings.{four};
 ghost use Rattle.records.specs.Writers.{Wrote};
 
 use algebra::Field;
@@ -29,6 +30,16 @@ impl<'a> Writer<'a> {
         let end = self.at + bytes.len();
         out[self.at..end].copy_from_slice(bytes);
         self.at = end;
+    }
+
+    // What every record begins with: a length that counts all after itself, where so many bytes follow the version, and the version 1.
+    pub(crate) fn put_opening(&mut self, rest: usize)
+        requires few { rest < 65600 }
+        requires room { self.old.at + 5 ≤ length self.old.out.now }
+        ensures { Wrote self.old (four (1 + rest) ++ (1 ∷ [])) self.new }
+    {
+        self.put_bytes(&(1 + rest as u32).to_be_bytes());
+        self.put_bytes(&[1]);
     }
 
     // Each element by its number.

@@ -1,4 +1,4 @@
-use Rattle.std.proofs.Common.{◌+◌, ◌≤◌, length, refl, arith}
+use Rattle.std.proofs.Common.{◌+◌, ◌≤◌, length, arith}
 use Rattle.records.specs.Publics.{key_of}
 use Rattle.records.proofs.Keys.{public-parts}
 use Rattle.records.proofs.Writers.{wrote_more, wrote_same}
@@ -10,7 +10,6 @@ returns-clause-after g c =
     let y = c.args.y.now in
     let h = c.args.head.now in
     let inside : w.at ≤ length w.out.now = omega (arith, c.requires.room) in
-    let opening = wrote_more (wrote_same c.to_be_bytes.ensures c.put_bytes.ensures) c.put_bytes-2.ensures inside in
-    let numbers = wrote_more opening (wrote_same c.profile_bytes.ensures c.put_bytes-3.ensures) inside in
-    wrote_same (public-parts g.F.Field.ops (key_of h y) (31 + length y) refl h.seed)
-    (wrote_more (wrote_more numbers c.put_bytes-4.ensures inside) c.put_elements.ensures inside)
+    let numbers = wrote_more c.put_opening.ensures (wrote_same c.profile_bytes.ensures c.put_bytes.ensures) inside in
+    wrote_same (public-parts g.F.Field.ops (key_of h y) (1 + (30 + length y)) (omega arith) h.seed)
+    (wrote_more (wrote_more numbers c.put_bytes-2.ensures inside) c.put_elements.ensures inside)

@@ -8,5 +8,4 @@ returns-clause-after g c =
     let w = c.args.self.now in
     let u = c.args.u.now in
     let inside : w.at ≤ length w.out.now = omega (arith, c.requires.room) in
-    wrote_same (secret-parts g.F.Field.ops u (1 + length u) refl)
-    (wrote_more (wrote_more (wrote_same c.to_be_bytes.ensures c.put_bytes.ensures) c.put_bytes-2.ensures inside) c.put_elements.ensures inside)
+    wrote_same (secret-parts g.F.Field.ops u (1 + length u) refl) (wrote_more c.put_opening.ensures c.put_elements.ensures inside)
