@@ -7,6 +7,7 @@ use algebra::Field;
 use algebra::sums::clear;
 use std::alloc::{AllocError, Global};
 
+// By `resize`, which copies: of the clones that `vec!` makes a proof over any field knows nothing.
 fn zeros<F: Field>(heap: Global, count: usize) -> Result<Vec<F>, AllocError>
     ensures { IfOk result (λ v. v.items ≡ replicate count F.Field.ops.zero) }
 {

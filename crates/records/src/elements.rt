@@ -11,7 +11,7 @@ pub fn all_elements<F: Field>(bytes: &[u8]) -> bool
     bytes.iter().all(|byte| usize::from(*byte) < F::size())
 }
 
-// The element of each byte.
+// The element of each byte. A byte is read by its index, since of what is written through a `zip` a proof knows nothing.
 pub fn read_elements<F: Field>(bytes: &[u8], out: &mut [F])
     requires { length out.old ≡ length bytes.now }
     ensures { out.new ≡ map F.Field.ops.element bytes.now }
