@@ -1,4 +1,3 @@
 pub mod Backs
 pub mod Cells
-pub mod Pairs
 pub mod Targets

@@ -1,9 +1,9 @@
 -- Making a key pair: what a key is, what is written, and what is refused. Assumes nothing.
-use Rattle.std.specs.Prelude.{◌≡◌, ℕ, ◌+◌, ◌-◌, ◌*◌, ◌<◌, ◌≤◌, Bool, true, ◌&&◌, List, [], ◌++◌, map, length, take, drop, replicate, None, vec_items, Option, ◌==◌, nat_le}
+use Rattle.std.specs.Prelude.{◌≡◌, ℕ, ◌+◌, ◌-◌, ◌*◌, ◌<◌, ◌≤◌, true, ◌&&◌, List, [], ◌++◌, map, length, take, drop, replicate, None, vec_items, Option, Result, ◌==◌, nat_le}
 use Rattle.refusal.specs.declared.Refusal.{Refusal}
 use Rattle.refusal.specs.declared.Refusal.TheVariants.{Code, Element, ArgumentLength, OutputShort, NoSolution}
 use Rattle.refusal.specs.declared.Refusal.TheVariants as refusals
-use Rattle.refusal.specs.Rows.{row, first}
+use Rattle.refusal.specs.Rows.{row, first, Tells}
 use Rattle.algebra.specs.Fields.{Ops}
 use Rattle.expander.specs.Streams.{drawn, seed_stream}
 use Rattle.lock.specs.declared.profile.Codes.{Codes}
@@ -15,6 +15,7 @@ use Rattle.lock.specs.Profiles.{same_codes}
 use Rattle.records.specs.Formats.{below, Puts}
 use Rattle.records.specs.Publics.{PublicKey, height, public_rows, public_value, public_bytes}
 use Rattle.records.specs.Secrets.{secret_rows, secret_value, secret_bytes}
+use Rattle.keys.specs.declared.request.KeyRequest.{KeyRequest}
 use Rattle.keys.specs.declared.sizes.KeySizes.{KeySizes}
 use Rattle.keys.specs.declared.workspace.Workspace.{Workspace}
 
@@ -68,11 +69,10 @@ module _ {F : Type 0} (sampled : List ℕ → F × ℕ) (block : List ℕ → Li
     abbrev pub target_of : Shape → List ℕ → List F → List F
     target_of s seed x = listed (product o (record { shape = s; matrix = matrix_of s seed; target = [] }) x) 0 (s.m - s.k)
 
-    -- what was told of a word x: whether it is wanted, and if so, at the front of lent memory, the target and the secret
-    pub record Filled (l : Forms F) (s : Shape) (seed : List ℕ) (x : List F) (answer : Bool) (target unknowns : List F) : Type 0 where
-      pub tells : answer ≡ l.wanted s x
-      pub rows : answer ≡ true → take (s.m - s.k) target ≡ target_of s seed x
-      pub secret : answer ≡ true → take (l.unknowns s) unknowns ≡ l.secret s x
+    -- the target and the secret of a word x stand at the front of lent memory
+    pub record Filled (l : Forms F) (s : Shape) (seed : List ℕ) (x : List F) (target unknowns : List F) : Type 0 where
+      pub rows : take (s.m - s.k) target ≡ target_of s seed x
+      pub secret : take (l.unknowns s) unknowns ≡ l.secret s x
 
     -- the public key of x
     abbrev pub key_for : Profile → List ℕ → List F → PublicKey F
@@ -86,6 +86,11 @@ module _ {F : Type 0} (sampled : List ℕ → F × ℕ) (block : List ℕ → Li
     pub record Writes (l : Forms F) (p : Profile) (seed : List ℕ) (x : List F) (was now : List ℕ) (s : KeySizes) : Type 0 where
       pub sizes : s ≡ key_sizes l p
       pub records : Puts was 0 (public_bytes o (key_for p seed x) ++ secret_bytes o (l.secret p.shape x)) now
+
+    -- what a call is answered that asks for a key pair, where `was` is the output before it and `now` after it
+    abbrev pub Made : Forms F → Codes → KeyRequest → List ℕ → List ℕ → Result KeySizes Refusal → Type 0
+    Made l c r was now =
+        Tells (make_rows l c r.profile r.matrix_seed.now r.x.now (length was)) (λ s. Writes l r.profile r.matrix_seed.now (map o.element r.x.now) was now s)
 
     -- the two records at the front of the output are taken, and the secret solves the lock of the public one
     pub record ReadsBack (l : Forms F) (c : Codes) (out : List ℕ) (s : KeySizes) : Type 0 where

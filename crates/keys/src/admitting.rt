@@ -4,10 +4,12 @@ ghost use Rattle.lock.specs.Locks.{within};
 ghost use Rattle.refusal.specs.Rows.{Tells};
 ghost use Rattle.keys.specs.Making.{key_sizes, admit_rows, Admitted};
 
+use crate::request::KeyRequest;
 use crate::sizes::KeySizes;
 use algebra::Field;
 use lock::{Codes, Lock, Profile};
 use records::elements::all_elements;
+use records::public::height;
 use refusal::Refusal;
 
 // The sizes of the two records of a profile.
@@ -16,7 +18,7 @@ fn sizes<F: Field, L: Lock<F>>(profile: &Profile) -> KeySizes
     ensures { result ≡ key_sizes L.Lock.forms profile.now }
 {
     KeySizes {
-        public: 35 + (profile.shape.m as usize - profile.shape.k as usize),
+        public: 35 + height(profile),
         secret: 5 + L::unknowns(profile.shape),
     }
 }
@@ -24,23 +26,22 @@ fn sizes<F: Field, L: Lock<F>>(profile: &Profile) -> KeySizes
 // All rows but the last, which wants the word.
 pub(crate) fn admit<F: Field, L: Lock<F>>(
     codes: Codes,
-    profile: &Profile,
-    matrix_seed: &[u8],
-    x: &[u8],
+    request: &KeyRequest,
     room: usize,
 ) -> Result<KeySizes, Refusal>
-    ensures { Tells (admit_rows F.Field.ops L.Lock.forms codes profile.now matrix_seed.now x.now room) (λ s. Admitted L.Lock.forms profile.now matrix_seed.now x.now room s) result }
+    ensures { Tells (admit_rows F.Field.ops L.Lock.forms codes request.now.profile request.now.matrix_seed.now request.now.x.now room) (λ s. Admitted L.Lock.forms request.now.profile request.now.matrix_seed.now request.now.x.now room s) result }
 {
-    if !profile.codes.agree(codes) {
+    let profile = &request.profile;
+    if profile.codes != codes {
         return Err(Refusal::Code);
     }
     if !profile.within::<F, L>() {
         return Err(Refusal::Profile);
     }
-    if !all_elements::<F>(x) {
+    if !all_elements::<F>(request.x) {
         return Err(Refusal::Element);
     }
-    if matrix_seed.len() != 16 || x.len() != profile.shape.m as usize {
+    if request.matrix_seed.len() != 16 || request.x.len() != profile.shape.m as usize {
         return Err(Refusal::ArgumentLength);
     }
     let sizes = sizes::<F, L>(profile);

@@ -6,11 +6,12 @@ mod codes;
 mod filling;
 mod making;
 mod reading;
+mod request;
 mod sizes;
 mod wiping;
 mod workspace;
 
 pub use codes::codes_in_use;
-pub use making::make;
+pub use request::KeyRequest;
 pub use sizes::KeySizes;
 pub use workspace::Workspace;

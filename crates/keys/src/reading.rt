@@ -16,12 +16,12 @@ use records::public::read_public;
 use records::secret::read_secret;
 use refusal::Refusal;
 
-// Reads a secret record of n unknowns to the front of lent memory.
+// Reads a secret record of n unknowns to the front of lent memory. It takes the whole, since a proof loses a `Vec` of which a part is lent.
 fn read_front<F: Field>(bytes: &[u8], n: usize, unknowns: &mut [F]) -> Result<(), Refusal>
     requires { n ≤ length unknowns.old }
     ensures { Tells (secret_rows F.Field.ops n bytes.now) (λ _. take n unknowns.new ≡ secret_value F.Field.ops bytes.now) result }
 {
-    read_secret(bytes, &mut unknowns[0..n])
+    read_secret(bytes, &mut unknowns[..n])
 }
 
 impl<F: Field> Workspace<F> {
@@ -45,9 +45,7 @@ impl<F: Field> Workspace<F> {
     {
         let head = self.read_public::<L, E>(public)?;
         let n = L::unknowns(head.profile.shape);
-        match read_front(secret, n, self.unknowns.as_mut_slice()) {
-            Ok(()) => Ok(head),
-            Err(refusal) => Err(refusal),
-        }
+        read_front(secret, n, self.unknowns.as_mut_slice())?;
+        Ok(head)
     }
 }

@@ -1,5 +1,5 @@
 // Working memory: how it is made, and how the secrets are wiped from it.
-ghost use Rattle.std.specs.Prelude.{◌≡◌, IfOk, vec_len};
+ghost use Rattle.std.specs.Prelude.{◌≡◌, IfOk, replicate};
 ghost use Rattle.keys.specs.Making.{Clean};
 
 use crate::workspace::Workspace;
@@ -7,19 +7,20 @@ use algebra::Field;
 use algebra::sums::clear;
 use std::alloc::{AllocError, Global};
 
+// By `resize`, which copies: of the clones that `vec!` makes a proof over any field knows nothing.
 fn zeros<F: Field>(heap: Global, count: usize) -> Result<Vec<F>, AllocError>
-    ensures { IfOk result (λ v. vec_len v ≡ count) }
+    ensures { IfOk result (λ v. v.items ≡ replicate count F.Field.ops.zero) }
 {
     let mut elements = Vec::new(heap);
-    for _ in 0..count {
-        elements.push(F::zero())?;
-    }
+    elements.resize(count, F::zero())?;
     Ok(elements)
 }
 
 impl<F: Field> Workspace<F> {
     // Only this can fail for want of memory.
-    pub fn new(heap: Global) -> Result<Workspace<F>, AllocError> {
+    pub fn new(heap: Global) -> Result<Workspace<F>, AllocError>
+        ensures { IfOk result (λ w. Clean F.Field.ops w) }
+    {
         Ok(Workspace {
             matrix: zeros(heap, 15625)?,
             word: zeros(heap, 250)?,

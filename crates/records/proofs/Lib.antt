@@ -1,4 +1,5 @@
+pub mod Bounds
 pub mod Keys
 pub mod Layouts
-pub mod Loops
 pub mod Trips
+pub mod Writers

@@ -3,3 +3,4 @@ pub mod Openings
 pub mod Publics
 pub mod Secrets
 pub mod Trips
+pub mod Writers

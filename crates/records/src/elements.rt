@@ -8,30 +8,15 @@ use algebra::Field;
 pub fn all_elements<F: Field>(bytes: &[u8]) -> bool
     ensures { result ≡ below F.Field.ops.size bytes.now }
 {
-    for byte in bytes {
-        if *byte as usize >= F::size() {
-            return false;
-        }
-    }
-    true
+    bytes.iter().all(|byte| usize::from(*byte) < F::size())
 }
 
-// The element of each byte.
+// The element of each byte. A byte is read by its index, since of what is written through a `zip` a proof knows nothing.
 pub fn read_elements<F: Field>(bytes: &[u8], out: &mut [F])
     requires { length out.old ≡ length bytes.now }
     ensures { out.new ≡ map F.Field.ops.element bytes.now }
 {
-    for i in 0..bytes.len() {
-        out[i] = F::element(bytes[i] as u16);
+    for (i, element) in out.iter_mut().enumerate() {
+        *element = F::element(u16::from(bytes[i]));
     }
-}
-
-// Sixteen bytes as an array.
-pub fn array16(bytes: &[u8]) -> [u8; 16]
-    requires { length bytes.now ≡ 16 }
-    ensures { result ≡ bytes.now }
-{
-    let mut out = [0u8; 16];
-    out.copy_from_slice(bytes);
-    out
 }

@@ -5,8 +5,9 @@ pub mod elements;
 pub mod head;
 pub mod opening;
 pub mod public;
-pub mod put;
 pub mod secret;
 pub mod theorems;
+pub mod writer;
 
 pub use head::PublicHead;
+pub use writer::Writer;

@@ -9,10 +9,10 @@ use refusal::Refusal;
 pub fn after_version(bytes: &[u8], least: usize) -> Result<&[u8], Refusal>
     ensures { Tells (opening_rows least bytes.now) (λ rest. (rest.now ≡ drop 5 bytes.now) × (least ≤ length rest.now + 1)) result }
 {
-    let [l0, l1, l2, l3, version, rest @ ..] = bytes else {
+    let Some((size, [version, rest @ ..])) = bytes.split_first_chunk::<4>() else {
         return Err(Refusal::RecordLength);
     };
-    let size = u32::from_be_bytes([*l0, *l1, *l2, *l3]) as usize;
+    let size = u32::from_be_bytes(*size) as usize;
     if size != rest.len() + 1 || size < least {
         return Err(Refusal::RecordLength);
     }

@@ -2,39 +2,54 @@
 ghost use Rattle.std.specs.Prelude.{◌≡◌, ◌+◌, ◌-◌, ◌<◌, ◌≤◌, true, length};
 ghost use Rattle.lock.specs.Locks.{within};
 ghost use Rattle.refusal.specs.Rows.{Tells};
-ghost use Rattle.records.specs.Formats.{Puts};
-ghost use Rattle.records.specs.Publics.{profile_value, profile_bytes, profile_rows, public_rows, public_value, public_bytes, key_of, Holds};
+ghost use Rattle.records.specs.Publics.{profile_value, profile_bytes, profile_rows, public_rows, public_value, public_bytes, height, key_of, Holds};
+ghost use Rattle.records.specs.Writers.{Wrote};
 
-use crate::elements::{all_elements, array16, read_elements};
+use crate::elements::{all_elements, read_elements};
 use crate::head::PublicHead;
 use crate::opening::after_version;
-use crate::put::{put_bytes, put_elements};
+use crate::writer::Writer;
 use algebra::Field;
 use lock::{Codes, Lock, Profile, Shape};
 use refusal::Refusal;
 
 // The least that the length field of a public record can be: one element.
-const LEAST: usize = 32;
+pub const LEAST: usize = 32;
 
-fn read_profile(bytes: &[u8]) -> Profile
-    requires { length bytes.now ≡ 14 }
+fn read_profile(bytes: &[u8; 14]) -> Profile
     ensures { result ≡ profile_value bytes.now }
 {
+    let [
+        field,
+        lock,
+        expander,
+        m1,
+        m0,
+        k1,
+        k0,
+        w1,
+        w0,
+        a,
+        b,
+        rho,
+        t1,
+        t0,
+    ] = *bytes;
     Profile {
         codes: Codes {
-            field: bytes[0],
-            lock: bytes[1],
-            expander: bytes[2],
+            field,
+            lock,
+            expander,
         },
         shape: Shape {
-            m: u16::from_be_bytes([bytes[3], bytes[4]]),
-            k: u16::from_be_bytes([bytes[5], bytes[6]]),
-            w: u16::from_be_bytes([bytes[7], bytes[8]]),
+            m: u16::from_be_bytes([m1, m0]),
+            k: u16::from_be_bytes([k1, k0]),
+            w: u16::from_be_bytes([w1, w0]),
         },
-        a: bytes[9],
-        b: bytes[10],
-        rho: bytes[11],
-        t: u16::from_be_bytes([bytes[12], bytes[13]]),
+        a,
+        b,
+        rho,
+        t: u16::from_be_bytes([t1, t0]),
     }
 }
 
@@ -63,6 +78,14 @@ fn profile_bytes(p: &Profile) -> [u8; 14]
     ]
 }
 
+// How many elements y has.
+pub fn height(profile: &Profile) -> usize
+    requires { profile.now.shape.k ≤ profile.now.shape.m }
+    ensures { result ≡ height profile.now }
+{
+    profile.shape.m as usize - profile.shape.k as usize
+}
+
 // The rows that look at a profile: its codes, its limits, and the number of bytes after the version.
 fn check_profile<F: Field, L: Lock<F>>(
     profile: &Profile,
@@ -71,13 +94,13 @@ fn check_profile<F: Field, L: Lock<F>>(
 ) -> Result<(), Refusal>
     ensures { Tells (profile_rows L.Lock.forms codes profile.now size) (λ _. (within L.Lock.forms profile.now ≡ true) × (size ≡ 30 + (profile.now.shape.m - profile.now.shape.k))) result }
 {
-    if !profile.codes.agree(codes) {
+    if profile.codes != codes {
         return Err(Refusal::Code);
     }
     if !profile.within::<F, L>() {
         return Err(Refusal::Profile);
     }
-    if size != 30 + (profile.shape.m as usize - profile.shape.k as usize) {
+    if size != 30 + height(profile) {
         return Err(Refusal::BodyLength);
     }
     Ok(())
@@ -93,30 +116,31 @@ pub fn read_public<F: Field, L: Lock<F>>(
     ensures { Tells (public_rows F.Field.ops L.Lock.forms codes bytes.now) (λ h. Holds L.Lock.forms (public_value F.Field.ops bytes.now) h y.new) result }
 {
     let body = after_version(bytes, LEAST)?;
-    let (front, rest) = body.split_at(14);
-    let profile = read_profile(front);
+    let (numbers, rest) = body.split_first_chunk().unwrap();
+    let profile = read_profile(numbers);
     check_profile::<F, L>(&profile, codes, body.len())?;
-    let (seed, elements) = rest.split_at(16);
+    let (seed, elements) = rest.split_first_chunk().unwrap();
     if !all_elements::<F>(elements) {
         return Err(Refusal::Element);
     }
-    read_elements(elements, &mut y[0..elements.len()]);
+    read_elements(elements, &mut y[..elements.len()]);
     Ok(PublicHead {
         profile,
-        matrix_seed: array16(seed),
+        matrix_seed: *seed,
     })
 }
 
-// Writes a public record from place `at` on, and answers the place after it.
-pub fn put_public<F: Field>(out: &mut [u8], at: usize, head: &PublicHead, y: &[F]) -> usize
-    requires few { length y.now < 65536 }
-    requires room { at + (35 + length y.now) ≤ length out.old }
-    ensures place { result ≡ at + (35 + length y.now) }
-    ensures after { Puts out.old at (public_bytes F.Field.ops (key_of head.now y.now)) out.new }
-{
-    let at = put_bytes(out, at, &(31 + y.len() as u32).to_be_bytes());
-    let at = put_bytes(out, at, &[1]);
-    let at = put_bytes(out, at, &profile_bytes(&head.profile));
-    let at = put_bytes(out, at, &head.matrix_seed);
-    put_elements(out, at, y)
+impl Writer<'_> {
+    // Writes a public record.
+    pub fn put_public<F: Field>(&mut self, head: &PublicHead, y: &[F])
+        requires few { length y.now < 65536 }
+        requires room { self.old.at + (35 + length y.now) ≤ length self.old.out.now }
+        ensures place { self.new.at ≡ self.old.at + (35 + length y.now) }
+        ensures after { Wrote self.old (public_bytes F.Field.ops (key_of head.now y.now)) self.new }
+    {
+        self.put_opening(30 + y.len());
+        self.put_bytes(&profile_bytes(&head.profile));
+        self.put_bytes(&head.matrix_seed);
+        self.put_elements(y);
+    }
 }

@@ -1,12 +1,12 @@
 // The secret record: the unknowns.
 ghost use Rattle.std.specs.Prelude.{◌≡◌, ◌+◌, ◌<◌, ◌≤◌, length};
 ghost use Rattle.refusal.specs.Rows.{Tells};
-ghost use Rattle.records.specs.Formats.{Puts};
 ghost use Rattle.records.specs.Secrets.{secret_rows, secret_value, secret_bytes};
+ghost use Rattle.records.specs.Writers.{Wrote};
 
 use crate::elements::{all_elements, read_elements};
 use crate::opening::after_version;
-use crate::put::{put_bytes, put_elements};
+use crate::writer::Writer;
 use algebra::Field;
 use refusal::Refusal;
 
@@ -25,14 +25,15 @@ pub fn read_secret<F: Field>(bytes: &[u8], u: &mut [F]) -> Result<(), Refusal>
     Ok(())
 }
 
-// Writes a secret record from place `at` on, and answers the place after it.
-pub fn put_secret<F: Field>(out: &mut [u8], at: usize, u: &[F]) -> usize
-    requires few { length u.now < 65536 }
-    requires room { at + (5 + length u.now) ≤ length out.old }
-    ensures place { result ≡ at + (5 + length u.now) }
-    ensures after { Puts out.old at (secret_bytes F.Field.ops u.now) out.new }
-{
-    let at = put_bytes(out, at, &(1 + u.len() as u32).to_be_bytes());
-    let at = put_bytes(out, at, &[1]);
-    put_elements(out, at, u)
+impl Writer<'_> {
+    // Writes a secret record.
+    pub fn put_secret<F: Field>(&mut self, u: &[F])
+        requires few { length u.now < 65536 }
+        requires room { self.old.at + (5 + length u.now) ≤ length self.old.out.now }
+        ensures place { self.new.at ≡ self.old.at + (5 + length u.now) }
+        ensures after { Wrote self.old (secret_bytes F.Field.ops u.now) self.new }
+    {
+        self.put_opening(u.len());
+        self.put_elements(u);
+    }
 }

@@ -2,9 +2,12 @@
 #![tactic(auto)]
 
 mod failure;
+mod kinds;
 mod making;
 mod reading;
+mod work;
 
 pub use failure::Failure;
+pub use kinds::{ExpanderKind, FieldKind, LockKind};
 pub use making::make_key;
 pub use reading::{codes_of, read_pair, read_public};

@@ -1,73 +1,40 @@
 // Making a key pair by the codes of its profile.
-ghost use Rattle.std.specs.Prelude.{◌≡◌, map, length};
-ghost use Rattle.refusal.specs.Rows.{Tells};
-ghost use Rattle.keys.specs.Making.{coded, make_rows, Writes};
-ghost use Rattle.suites.specs.Suites.{Over, OverLock, OverExpander, But};
+ghost use Rattle.std.specs.Prelude.{◌≡◌, OnErr};
+ghost use Rattle.suites.specs.Suites.{Answered, Makes};
 
 use crate::failure::Failure;
-use algebra::{Field, Gf256, Mod251};
-use expander::{AesExpander, Expander, ShakeExpander};
-use keys::{KeySizes, Workspace, make};
-use lock::{Codes, Lock, Profile};
+use crate::work::{Work, pick};
+use algebra::Field;
+use expander::Expander;
+use keys::{KeyRequest, KeySizes, Workspace};
+use lock::{Codes, Lock};
 use refusal::Refusal;
-use regular::Regular;
 use std::alloc::Global;
-use weight::Weight;
 
-fn over<F: Field, L: Lock<F>, E: Expander>(
-    heap: Global,
-    profile: &Profile,
-    matrix_seed: &[u8],
-    x: &[u8],
-    out: &mut [u8],
-) -> Result<KeySizes, Failure> {
-    let mut work = Workspace::new(heap)?;
-    let sizes = make::<F, L, E>(&mut work, profile, matrix_seed, x, out)?;
-    Ok(sizes)
-}
+// A key pair is made for what is asked for.
+impl Work for KeyRequest<'_> {
+    type Answer = KeySizes;
 
-fn over_lock<F: Field, L: Lock<F>>(
-    heap: Global,
-    expander: u8,
-    profile: &Profile,
-    matrix_seed: &[u8],
-    x: &[u8],
-    out: &mut [u8],
-) -> Result<KeySizes, Failure> {
-    match expander {
-        1 => over::<F, L, AesExpander>(heap, profile, matrix_seed, x, out),
-        2 => over::<F, L, ShakeExpander>(heap, profile, matrix_seed, x, out),
-        _ => Err(Failure::Refused(Refusal::Code)),
+    ghost says = { λ o sampled l block codes asked was now r. Makes sampled block o l codes asked was now r };
+
+    fn run<F: Field, L: Lock<F>, E: Expander>(
+        &self,
+        memory: &mut Workspace<F>,
+        out: &mut [u8],
+    ) -> Result<KeySizes, Refusal> {
+        memory.make::<L, E>(self, out)
     }
 }
 
-fn over_field<F: Field>(
-    heap: Global,
-    codes: Codes,
-    profile: &Profile,
-    matrix_seed: &[u8],
-    x: &[u8],
-    out: &mut [u8],
-) -> Result<KeySizes, Failure> {
-    match codes.lock {
-        1 => over_lock::<F, Weight>(heap, codes.expander, profile, matrix_seed, x, out),
-        2 => over_lock::<F, Regular>(heap, codes.expander, profile, matrix_seed, x, out),
-        _ => Err(Failure::Refused(Refusal::Code)),
-    }
-}
-
-// Makes a key pair with the field, lock and expander that the codes name.
+// Makes a key pair with the field, lock and expander that the codes name. A failure leaves the output as it was.
 pub fn make_key(
     heap: Global,
     codes: Codes,
-    profile: &Profile,
-    matrix_seed: &[u8],
-    x: &[u8],
+    request: &KeyRequest,
     out: &mut [u8],
-) -> Result<KeySizes, Failure> {
-    match codes.field {
-        1 => over_field::<Gf256>(heap, codes, profile, matrix_seed, x, out),
-        2 => over_field::<Mod251>(heap, codes, profile, matrix_seed, x, out),
-        _ => Err(Failure::Refused(Refusal::Code)),
-    }
+) -> Result<KeySizes, Failure>
+    ensures answers { Answered codes (λ F o sampled l block. Makes sampled block o l codes request.now out.old out.new) result }
+    ensures same { OnErr result (out.new ≡ out.old) }
+{
+    pick(heap, codes, request, out)
 }

@@ -1,70 +1,69 @@
 // Reading the records of a key by their codes.
+ghost use Rattle.std.specs.Prelude.{◌≡◌};
+ghost use Rattle.refusal.specs.Rows.{Tells};
+ghost use Rattle.records.specs.Openings.{opening_rows};
+ghost use Rattle.records.specs.Publics.{profile_of, public_rows, public_value};
+ghost use Rattle.keys.specs.Pairs.{pair_rows};
+ghost use Rattle.suites.specs.Suites.{Answered, IsHead};
+
 use crate::failure::Failure;
-use algebra::{Field, Gf256, Mod251};
-use expander::{AesExpander, Expander, ShakeExpander};
+use crate::work::{Work, pick};
+use algebra::Field;
+use expander::Expander;
 use keys::Workspace;
 use lock::{Codes, Lock};
 use records::PublicHead;
 use records::opening::after_version;
+use records::public::LEAST;
 use refusal::Refusal;
-use regular::Regular;
 use std::alloc::Global;
-use weight::Weight;
 
-// What is read: a public record, or a pair.
+// A public record that is to be read.
 #[derive(Clone, Copy)]
-enum Records<'a> {
-    Public(&'a [u8]),
-    Pair(&'a [u8], &'a [u8]),
+struct ReadPublic<'a> {
+    bytes: &'a [u8],
 }
 
-fn over<F: Field, L: Lock<F>, E: Expander>(
-    heap: Global,
-    records: Records,
-) -> Result<PublicHead, Failure> {
-    let mut work: Workspace<F> = Workspace::new(heap)?;
-    let head = match records {
-        Records::Public(bytes) => work.read_public::<L, E>(bytes)?,
-        Records::Pair(public, secret) => work.read_pair::<L, E>(public, secret)?,
-    };
-    Ok(head)
+// A public and a secret record that are to be read.
+#[derive(Clone, Copy)]
+struct ReadPair<'a> {
+    public: &'a [u8],
+    secret: &'a [u8],
 }
 
-fn over_lock<F: Field, L: Lock<F>>(
-    heap: Global,
-    expander: u8,
-    records: Records,
-) -> Result<PublicHead, Failure> {
-    match expander {
-        1 => over::<F, L, AesExpander>(heap, records),
-        2 => over::<F, L, ShakeExpander>(heap, records),
-        _ => Err(Failure::Refused(Refusal::Code)),
+impl Work for ReadPublic<'_> {
+    type Answer = PublicHead;
+
+    ghost says = { λ o sampled l block codes w was now r. Tells (public_rows o l codes w.bytes.now) (IsHead l (public_value o w.bytes.now)) r };
+
+    fn run<F: Field, L: Lock<F>, E: Expander>(
+        &self,
+        memory: &mut Workspace<F>,
+        _out: &mut [u8],
+    ) -> Result<PublicHead, Refusal> {
+        memory.read_public::<L, E>(self.bytes)
     }
 }
 
-fn over_field<F: Field>(
-    heap: Global,
-    codes: Codes,
-    records: Records,
-) -> Result<PublicHead, Failure> {
-    match codes.lock {
-        1 => over_lock::<F, Weight>(heap, codes.expander, records),
-        2 => over_lock::<F, Regular>(heap, codes.expander, records),
-        _ => Err(Failure::Refused(Refusal::Code)),
-    }
-}
+impl Work for ReadPair<'_> {
+    type Answer = PublicHead;
 
-fn read(heap: Global, codes: Codes, records: Records) -> Result<PublicHead, Failure> {
-    match codes.field {
-        1 => over_field::<Gf256>(heap, codes, records),
-        2 => over_field::<Mod251>(heap, codes, records),
-        _ => Err(Failure::Refused(Refusal::Code)),
+    ghost says = { λ o sampled l block codes w was now r. Tells (pair_rows o l codes w.public.now w.secret.now) (IsHead l (public_value o w.public.now)) r };
+
+    fn run<F: Field, L: Lock<F>, E: Expander>(
+        &self,
+        memory: &mut Workspace<F>,
+        _out: &mut [u8],
+    ) -> Result<PublicHead, Refusal> {
+        memory.read_pair::<L, E>(self.public, self.secret)
     }
 }
 
 // Reads a public record with the field, lock and expander that the codes name.
-pub fn read_public(heap: Global, codes: Codes, bytes: &[u8]) -> Result<PublicHead, Failure> {
-    read(heap, codes, Records::Public(bytes))
+pub fn read_public(heap: Global, codes: Codes, bytes: &[u8]) -> Result<PublicHead, Failure>
+    ensures { Answered codes (λ F o sampled l block. Tells (public_rows o l codes bytes.now) (IsHead l (public_value o bytes.now))) result }
+{
+    pick(heap, codes, &ReadPublic { bytes }, &mut [])
 }
 
 // Reads a public record, and then a secret one.
@@ -73,19 +72,21 @@ pub fn read_pair(
     codes: Codes,
     public: &[u8],
     secret: &[u8],
-) -> Result<PublicHead, Failure> {
-    read(heap, codes, Records::Pair(public, secret))
+) -> Result<PublicHead, Failure>
+    ensures { Answered codes (λ F o sampled l block. Tells (pair_rows o l codes public.now secret.now) (IsHead l (public_value o public.now))) result }
+{
+    pick(heap, codes, &ReadPair { public, secret }, &mut [])
 }
 
 // The codes that a public record names.
-pub fn codes_of(bytes: &[u8]) -> Result<Codes, Refusal> {
-    let rest = after_version(bytes, 32)?;
-    match rest {
-        [field, lock, expander, ..] => Ok(Codes {
-            field: *field,
-            lock: *lock,
-            expander: *expander,
-        }),
-        _ => Err(Refusal::RecordLength),
-    }
+pub fn codes_of(bytes: &[u8]) -> Result<Codes, Refusal>
+    ensures { Tells (opening_rows 32 bytes.now) (λ c. c ≡ (profile_of bytes.now).codes) result }
+{
+    let rest = after_version(bytes, LEAST)?;
+    let ([field, lock, expander], _) = rest.split_first_chunk::<3>().unwrap();
+    Ok(Codes {
+        field: *field,
+        lock: *lock,
+        expander: *expander,
+    })
 }

@@ -1,5 +1,5 @@
-use Rattle.std.proofs.Common.{◌≡◌, ◌++◌, map, take, drop}
+use Rattle.std.proofs.Common.{◌≡◌, map, take}
 use Rattle.records.proofs.elements.read_elements.Given as goal
 
 abbrev pub invariant-loop-i : goal.invariant-loop-i
-invariant-loop-i g l = l.out ≡ map g.F.Field.ops.element (take l.i l.bytes) ++ drop l.i l.initial.out
+invariant-loop-i g l = take l.i l.out ≡ map g.F.Field.ops.element (take l.i l.bytes)
