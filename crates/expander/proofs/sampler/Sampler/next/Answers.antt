@@ -11,7 +11,8 @@ returns-then-self-used-le-BLOCK g c f k is =
     let self = c.args.self.now in
     let sampled = g.F.Field.sampled in
     let x = c.sample-x.result in
-    let read : c.sample-x.result ≡ sampled (sixteen self.block self.at (replicate 16 0)) = c.sample-x.ensures ∙ ap sampled c.sixteen.ensures in
+    let read : c.sample-x.result ≡ sampled (sixteen self.block self.at (replicate 16 0)) =
+    c.sample-x.ensures ∙ ap sampled {y = sixteen self.block self.at (replicate 16 0)} c.sixteen.ensures in
     let right = sample-held g.met.F.Field.reads self.block (replicate 16 0) self.at f k x self.full refl self.place is.held read c.if-self-used-le-BLOCK.true in
     let n = ap (λ (p : g.row.F.Denot × ℕ). p.1) right in (
       ap (λ (p : g.row.F.Denot × ℕ). p.0) right,
@@ -25,8 +26,10 @@ over g c =
     let sampled = g.F.Field.sampled in
     let next = c.next_block-block.result in
     let whole : length c.next_block-block.result ≡ 16 = search rules in
-    let x : c.sample-x.result ≡ sampled (sixteen self.block self.at (replicate 16 0)) = c.sample-x.ensures ∙ ap sampled c.sixteen.ensures in
-    let y : c.sample-y.result ≡ sampled (sixteen self.block self.at next) = c.sample-y.ensures ∙ ap sampled c.sixteen-2.ensures in (
+    let x : c.sample-x.result ≡ sampled (sixteen self.block self.at (replicate 16 0)) =
+    c.sample-x.ensures ∙ ap sampled {y = sixteen self.block self.at (replicate 16 0)} c.sixteen.ensures in
+    let y : c.sample-y.result ≡ sampled (sixteen self.block self.at next) =
+    c.sample-y.ensures ∙ ap sampled {y = sixteen self.block self.at next} c.sixteen-2.ensures in (
       sample_further g.met.F.Field.reads self.block (replicate 16 0) next self.at c.sample-x.result c.sample-y.result
           self.full refl whole self.place x y c.if-self-used-le-BLOCK.false,
       sample_most g.met.F.Field.reads self.block next self.at c.sample-y.result self.full whole self.place y,
