@@ -2,7 +2,8 @@
 ghost use Rattle.std.specs.Prelude.{◌≡◌, ◌≤◌, length};
 
 // `block` is the last that the source gave, the bytes of it from `at` on are the next of the stream, and the source goes on after them.
-// A byte before `at` is used: no block is asked for too soon. The place stands beside the block, since a sampler has no heap for a list of what is left.
+// A byte before `at` is used: no block is asked for too soon. The place stands beside the block, since a sampler keeps no list of what is
+// left: its memory is fixed.
 #[derive(Drop)]
 pub struct Sampler<S> {
     pub(crate) source: S,
