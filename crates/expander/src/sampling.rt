@@ -1,7 +1,7 @@
 // Elements sampled from a source one after the other. The source is asked for a block only when an element needs bytes of it.
-ghost use Rattle.std.specs.Prelude.{◌≡◌, ℕ, ◌+◌, ◌≤◌, length, take, drop};
-ghost use Rattle.expander.specs.Sampling.{Sampling, Draws};
-ghost use Rattle.expander.specs.Streams.{window, drawn, seed_stream, tagged_stream};
+ghost use Rattle.std.specs.Prelude.{◌≡◌, ℕ, ◌≤◌, length, take, drop};
+ghost use Rattle.expander.specs.Sampling.{Sampling, DrawsOne, Draws};
+ghost use Rattle.expander.specs.Streams.{drawn, seed_stream, tagged_stream};
 ghost use Rattle.std.specs.List.{flat_map};
 
 use crate::expander::Expander;
@@ -34,7 +34,7 @@ impl<S: Stream> Sampler<S> {
 
     // The next element.
     pub fn next<F: Field>(&mut self) -> F
-        ensures { (f : ℕ → ℕ) (k : ℕ) → Sampling S.Stream.gives self.old f k → (result ≡ (F.Field.sampled (window f k 16)).0) × Sampling S.Stream.gives self.new f (k + (F.Field.sampled (window f k 16)).1) }
+        ensures { DrawsOne S.Stream.gives F.Field.sampled self.old result self.new }
     {
         let (x, used) = F::sample(sixteen(&self.pair, self.at));
         if self.at + used <= BLOCK {
