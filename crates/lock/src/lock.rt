@@ -16,7 +16,7 @@ pub trait Lock<F: Field> {
 
     ghost working: { Parts F };
 
-    // The number by which records name the lock.
+    // The number by which records name the lock. Whoever writes a lock may pick one, so it is of no enum of ours.
     ghost named: { ℕ };
 
     fn code() -> u8
