@@ -9,7 +9,7 @@ pub trait Field: Copy {
     // What sixteen bytes are sampled to: an element, and how many of the bytes were used.
     ghost sampled: { List ℕ → Self × ℕ };
 
-    // The number by which records name the field.
+    // The number by which records name the field. Whoever writes a field may pick one, so it is of no enum of ours.
     ghost named: { ℕ };
 
     fn code() -> u8

@@ -3,7 +3,7 @@ ghost use Rattle.std.specs.Prelude.{◌≡◌, ℕ, List, length};
 
 // An expander that is keyed with a salt and a seed.
 pub trait Expander: Drop {
-    // The number by which a record names the expander.
+    // The number by which records name the expander. Whoever writes an expander may pick one, so it is of no enum of ours.
     ghost named: { ℕ };
 
     // What a salt, a seed and a number are expanded to.

@@ -1,6 +1,7 @@
 // The numbers that a key pair is made for.
 
-// By which a record names its field, lock and expander.
+// By which a record names its field, lock and expander. Any bytes may stand there, so they are numbers; the crate `suites` has the
+// kinds that they name as enums.
 #[derive(Clone, Copy, PartialEq, Eq)]
 pub struct Codes {
     pub field: u8,

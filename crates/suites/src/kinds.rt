@@ -24,6 +24,7 @@ pub enum ExpanderKind {
     Shake = 2,
 }
 
+// Each kind is read from its code by a `match` of its own: one for all three would need a trait over them and a table for each.
 impl TryFrom<u8> for FieldKind {
     type Error = Refusal;
 

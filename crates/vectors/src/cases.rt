@@ -8,6 +8,9 @@ use std::fmt;
 use std::num::ParseIntError;
 use std::str::Split;
 
+// More bytes than this are not asked for at once: such a case differs.
+const LONGEST_PIECE: usize = 512;
+
 // What a case did that agrees.
 #[derive(Clone, Copy, Debug, PartialEq, Eq)]
 pub enum Done {
@@ -122,7 +125,7 @@ fn hash(words: &mut Words) -> Result<Done, Failure> {
     let taken = words.size()?;
     let given = words.size()?;
     let answer = words.bytes()?;
-    if taken == 0 || given == 0 {
+    if taken == 0 || given == 0 || given.min(answer.len()) > LONGEST_PIECE {
         return Err(Failure::Differs);
     }
     let mut sponge = Sponge::new();
