@@ -31,6 +31,7 @@ pub(crate) fn fill_roots<F: Field>(x: &[F], coefficients: &mut [F])
     requires room { length coefficients.old ≡ weight_of F.Field.ops x.now }
     ensures { coefficients.new ≡ rooted F.Field.ops x.now }
 {
+    // The degree is counted here: places that are filtered and then enumerated again would read no plainer.
     let mut degree = 0;
     for (i, element) in x.iter().enumerate() {
         if element.number() != 0 {
