@@ -13,6 +13,7 @@ pub fn add_columns<F: Field>(matrix: &[F], factors: &[F], sums: &mut [F])
     requires { length matrix.now ≡ length factors.now * length sums.old }
     ensures { Added F.Field.ops matrix.now factors.now sums.old sums.new }
 {
+    // By split_at, since chunks_exact cuts no chunks of zero elements, and there may be zero rows.
     let rows = sums.len();
     let mut rest = matrix;
     for factor in factors {
