@@ -13,15 +13,11 @@ mod word;
 pub use key::Aes128;
 
 // The definition of the cipher gives the example of FIPS 197, appendix C.1.
-pub fn block_example() -> u8
+pub fn block_example()
     ensures { BlockExample }
-{
-    0
-}
+{}
 
 // The definition of MixColumns on one column gives the example of FIPS 197, appendix B.
-pub fn column_example() -> u8
+pub fn column_example()
     ensures { ColumnExample }
-{
-    0
-}
+{}

@@ -4,14 +4,10 @@ ghost use Rattle.records.specs.Trips.{PublicTrip, SecretTrip};
 use algebra::Field;
 use lock::Lock;
 
-pub fn public_round_trip<F: Field, L: Lock<F>>() -> u8
+pub fn public_round_trip<F: Field, L: Lock<F>>()
     ensures { PublicTrip F.Field.ops L.Lock.forms }
-{
-    0
-}
+{}
 
-pub fn secret_round_trip<F: Field>() -> u8
+pub fn secret_round_trip<F: Field>()
     ensures { SecretTrip F.Field.ops }
-{
-    0
-}
+{}

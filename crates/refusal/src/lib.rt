@@ -75,11 +75,9 @@ impl TryFrom<u8> for Refusal {
 }
 
 // No two refusals have one number. The function does nothing; its contract is the theorem.
-pub fn numbers_differ() -> u8
+pub fn numbers_differ()
     ensures { NumbersDiffer }
-{
-    0
-}
+{}
 
 // What is wrong, for a person.
 impl fmt::Display for Refusal {

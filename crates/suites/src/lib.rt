@@ -5,6 +5,8 @@ mod failure;
 mod kinds;
 mod making;
 mod reading;
+#[cfg(test)]
+mod tests;
 mod work;
 
 pub use failure::Failure;
