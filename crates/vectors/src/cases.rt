@@ -71,6 +71,7 @@ pub fn run(heap: Global, line: &str) -> Result<Done, Failure> {
         heap,
         rest: line.split(' '),
     };
+    // An enum of the kinds of cases, read from the word, would only list them a second time.
     match words.word()? {
         "aes128" => encipher(&mut words),
         "shake256" => hash(&mut words),
