@@ -35,6 +35,7 @@ pub fn add_scaled<F: Field>(sums: &mut [F], factor: F, elements: &[F])
     requires { length elements.now ≡ length sums.old }
     ensures { sums.new ≡ combined F.Field.ops factor elements.now sums.old }
 {
+    // By index, since of what is written through a `zip` a proof knows nothing.
     for (i, sum) in sums.iter_mut().enumerate() {
         *sum = factor.multiply(elements[i]).add(*sum);
     }
@@ -44,6 +45,7 @@ pub fn add_scaled<F: Field>(sums: &mut [F], factor: F, elements: &[F])
 pub fn clear<F: Field>(elements: &mut [F])
     ensures { elements.new ≡ replicate (length elements.old) F.Field.ops.zero }
 {
+    // `fill` asks that clones cannot fail, which an element of any field does not promise.
     for x in elements.iter_mut() {
         *x = F::zero();
     }

@@ -34,6 +34,7 @@ fn next_key(key: &State, power: u8) -> State
 fn expand(key: &[u8; 16]) -> [Word; 44]
     ensures { result ≡ schedule_of key.now }
 {
+    // Each is made from the one before it in the same array, so that they are counted.
     let mut keys = [columns(key); 11];
     for (r, power) in powers().iter().enumerate() {
         keys[r + 1] = next_key(&keys[r], *power);

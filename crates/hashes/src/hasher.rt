@@ -12,7 +12,7 @@ pub struct Hasher {
 // Each clause says of every tag and message that the hasher may have taken what holds then; what holds differs, so that one word for
 // their common beginning would read no plainer.
 impl Hasher {
-    // H(tag, ..), with nothing taken yet.
+    // H(tag, ..), with nothing taken yet. Any byte may be a tag: what holds of one holds of all, and their uses belong to the layers above.
     pub fn new(tag: u8) -> Hasher
         ensures { Hashing result tag [] }
     {

@@ -13,7 +13,8 @@ use lock::{Lock, Shape, Sound};
 use records::elements::read_elements;
 use refusal::Refusal;
 
-// y = H x: the elements of x that are not free, and H' times those that are.
+// y = H x: the elements of x that are not free, and H' times those that are. No lock is known here, so that clauses speak of the
+// shape alone.
 fn fill_target<F: Field>(shape: Shape, matrix: &[F], x: &[F], target: &mut [F])
     requires ranged { ranged shape ≡ true }
     requires cells { length matrix.now ≡ shape.k * (shape.m - shape.k) }

@@ -3,7 +3,8 @@ ghost use Rattle.std.specs.Prelude.{◌≡◌, ◌-◌, ◌*◌, length};
 
 use crate::profile::Shape;
 
-// The matrix H' of m - k rows and k columns, column after column, and the target y of m - k elements.
+// The matrix H' of m - k rows and k columns, column after column, and the target y of m - k elements. The matrix
+// lies in lent memory in the order in which it is sampled.
 #[derive(Drop)]
 pub struct Instance<'a, F> {
     pub shape: Shape,

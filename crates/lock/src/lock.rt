@@ -37,7 +37,7 @@ pub trait Lock<F: Field> {
         ensures { result ≡ working.count sound.now.shape };
 
     // The parts at a level s and unknowns u, from which the equations are worked out. The two stay apart, as in E_j(s, u): a type for
-    // both would serve this function and `fill_word` alone.
+    // both would serve this function and `fill_word` alone. The numbers stand in the problem, so that a clause says they are sound.
     fn parts(problem: &Instance<F>, s: F, u: &[F], out: &mut [F])
         requires sound { sound forms problem.now.shape ≡ true }
         requires unknowns { length u.now ≡ forms.unknowns problem.now.shape }

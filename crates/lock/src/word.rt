@@ -31,6 +31,7 @@ fn fill_bound<F: Field>(problem: &Instance<F>, s: F, free: &[F], out: &mut [F])
 {
     clear(out);
     add_columns(problem.matrix, free, out);
+    // By index, since of what is written through a `zip` a proof knows nothing.
     for (r, row) in out.iter_mut().enumerate() {
         *row = problem.target[r].multiply(s).add(row.negate());
     }

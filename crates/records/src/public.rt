@@ -16,7 +16,7 @@ use refusal::Refusal;
 // The least that the length field of a public record can be: one element.
 pub const LEAST: usize = 32;
 
-// A profile from its bytes, and its bytes. They are no `From`, which the crate of the type would have to write.
+// A profile from its bytes, and its bytes. They are no `From`, which the crate of the type would have to write: it knows no format.
 fn read_profile(bytes: &[u8; 14]) -> Profile
     ensures { result ≡ profile_value bytes.now }
 {

@@ -43,7 +43,7 @@ impl Refusal {
     }
 }
 
-// The refusal that has a number.
+// The refusal that has a number. No derive makes this from the numbers above.
 impl TryFrom<u8> for Refusal {
     type Error = UnknownRefusal;
 

@@ -4,7 +4,7 @@ ghost use Rattle.regular.specs.Regular.{Equation, whole, pair, pairs_with, pairs
 
 use algebra::Field;
 
-// The places of a block.
+// The places of a block. Whether it lies inside depends on the view too, so that clauses say it where both meet.
 #[derive(Clone, Copy)]
 pub struct Block {
     pub start: usize,

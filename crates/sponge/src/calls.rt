@@ -44,7 +44,7 @@ impl Sponge {
         self.advance(1);
     }
 
-    // Takes eight bytes, at the beginning of a lane.
+    // Takes eight bytes, at the beginning of a lane: they are xored whole, where a byte goes to its place in one.
     fn put_lane(&mut self, bytes: &[u8; 8])
         requires { self.old.pos % 8 ≡ 0 }
         ensures { Takes self.old bytes.now self.new }

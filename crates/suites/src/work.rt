@@ -48,7 +48,8 @@ fn run_in_new_memory<F: Field, L: Lock<F>, E: Expander, W: Work>(
     Ok(work.run::<F, L, E>(&mut memory, out)?)
 }
 
-// One function for each kind, so that another field, lock or expander is one more arm.
+// One function for each kind, so that another field, lock or expander is one more arm here. Each passes on what it was lent: a struct
+// for that would be taken apart at each step.
 fn over_lock<F: Field, L: Lock<F>, W: Work>(
     heap: Global,
     expander: ExpanderKind,

@@ -147,6 +147,7 @@ fn hash(words: &mut Words) -> Result<Done, Failure> {
 fn repeat(words: &mut Words) -> Result<Done, Failure> {
     let what = words.word()?;
     let count = words.size()?;
+    // A table of these functions by name would be no plainer.
     let last = match what {
         "block" => repeats::blocks(count),
         "key" => repeats::keys(count),

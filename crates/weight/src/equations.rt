@@ -95,7 +95,7 @@ impl<'a, F> Halves<'a, F> {
     }
 }
 
-// x_j q_j at each place j.
+// x_j q_j at each place j, by index, since of what is written through a `zip` a proof knows nothing.
 fn products<F: Field>(parts: &Halves<F>, out: &mut [F])
     requires { length out.old ≡ length parts.now.word.now }
     ensures { out.new ≡ products_of F.Field.ops parts.now.word.now parts.now.locators.now (length out.old) }
@@ -105,7 +105,7 @@ fn products<F: Field>(parts: &Halves<F>, out: &mut [F])
     }
 }
 
-// x_j r_j + y_j q_j at each place j, from x with q and y with r.
+// x_j r_j + y_j q_j at each place j, from x with q and y with r, by index for the same reason.
 fn crossings<F: Field>(one: &Halves<F>, zero: &Halves<F>, out: &mut [F])
     requires one { length out.old ≡ length one.now.word.now }
     requires zero { length out.old ≡ length zero.now.word.now }

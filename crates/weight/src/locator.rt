@@ -5,7 +5,8 @@ ghost use Rattle.lock.specs.Instances.{listed};
 
 use algebra::Field;
 
-// The value of the polynomial with these coefficients and the leading coefficient s, by Horner's rule.
+// The value of the polynomial with these coefficients and the leading coefficient s, by Horner's rule. It begins with s, where
+// `evaluate` begins with zero and needs no law of the field.
 fn value_at<F: Field>(s: F, coefficients: &[F], at: F) -> F
     ensures { result ≡ eval_of F.Field.ops (coefficients.now ++ (s ∷ [])) at }
 {
