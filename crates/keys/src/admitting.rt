@@ -23,7 +23,8 @@ fn sizes<F: Field, L: Lock<F>>(profile: &Profile) -> KeySizes
     }
 }
 
-// All rows but the last, which wants the word.
+// All rows but the last, which wants the word. Rows are tested in their order before anything is made, so that each is a test here, and
+// the value that it is about is made later.
 pub(crate) fn admit<F: Field, L: Lock<F>>(
     codes: Codes,
     request: &KeyRequest,
