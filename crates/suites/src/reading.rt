@@ -78,7 +78,7 @@ pub fn read_pair(
     pick(heap, codes, &ReadPair { public, secret }, &mut [])
 }
 
-// The codes that a public record names.
+// The codes that a public record names. A profile is read with its codes in `records`, all fourteen bytes at once; here three are enough.
 pub fn codes_of(bytes: &[u8]) -> Result<Codes, Refusal>
     ensures { Tells (opening_rows 32 bytes.now) (λ c. c ≡ (profile_of bytes.now).codes) result }
 {

@@ -13,7 +13,7 @@ pub fn blocks(count: usize) -> u8 {
     block[0]
 }
 
-// Makes the schedule of a key, and then of a block under it.
+// Makes the schedule of a key, and then of a block under it. What is repeated is all that differs from above, and all that is measured.
 pub fn keys(count: usize) -> u8 {
     let mut key = [7u8; 16];
     for _ in 0..count {
