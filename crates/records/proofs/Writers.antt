@@ -8,7 +8,7 @@ use Rattle.records.specs.Formats.{written, Puts}
 use Rattle.records.specs.Writers.{Wrote}
 
 -- two pieces written one after the other
-written_join : (out a b : List ℕ) (at n : ℕ) → n ≡ at + length a → at ≤ length out → written (written out at a) n b ≡ written out at (a ++ b)
+pub written_join : (out a b : List ℕ) (at n : ℕ) → n ≡ at + length a → at ≤ length out → written (written out at a) n b ≡ written out at (a ++ b)
 written_join out a b at n e h =
     let i = length a in
     let j = length b in
@@ -36,6 +36,6 @@ wrote_same {a} {b} {x} {y} e p = record {
   after = record { is = p.after.is ∙ ap (written a.out.now a.at) e };
 }
 
--- what was written from the front on is what the lent bytes begin with
-pub wrote_front : {a b : Writer} {x was now : List ℕ} → Wrote a x b → a.out.now ≡ was → a.at ≡ 0 → now ≡ b.out.now → Puts was 0 x now
-wrote_front {a} {b} {x} {was} {now} p e z f = record { is = f ∙ p.after.is ∙ ap₂ (λ (l : List ℕ) (k : ℕ). written l k x) e z }
+-- what was written is what the lent bytes have from the writer's place on
+pub wrote_on : {a b : Writer} {x was now : List ℕ} {at : ℕ} → Wrote a x b → a.out.now ≡ was → a.at ≡ at → now ≡ b.out.now → Puts was at x now
+wrote_on {a} {b} {x} {was} {now} p e z f = record { is = f ∙ p.after.is ∙ ap₂ (λ (l : List ℕ) (k : ℕ). written l k x) e z }

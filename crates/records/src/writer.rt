@@ -5,12 +5,12 @@ ghost use Rattle.records.specs.Writers.{Wrote};
 
 use algebra::Field;
 
-// Lent bytes, and the place up to which they are written. What is left is no slice that shrinks, since of a `&mut [u8]` that is moved
-// on a proof learns no byte that was written.
+// Lent bytes, and the place up to which they are written. A writer may begin at any place, and tells by its own where it stands. What is
+// left is no slice that shrinks, since of a `&mut [u8]` that is moved on a proof learns no byte that was written.
 #[derive(Drop)]
 pub struct Writer<'a> {
-    out: &'a mut [u8],
-    at: usize,
+    pub out: &'a mut [u8],
+    pub at: usize,
 }
 
 impl<'a> Writer<'a> {

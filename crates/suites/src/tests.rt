@@ -1,7 +1,10 @@
-// Keys that another implementation made: each is made again from its profile, its seed and its word, and read back.
+// Keys that another implementation made: each is made again from its profile, its seed and its word, and read back. And a record that is
+// written after what stands already.
 use crate::{codes_of, make_key, read_pair, read_public};
+use algebra::Gf256;
 use keys::KeyRequest;
 use lock::{Codes, Profile, Shape};
+use records::Writer;
 use std::test::Fail;
 
 #[derive(Clone, Copy)]
@@ -78,5 +81,19 @@ fn keys_are_made_and_read(rt: HostRuntime) -> Result<(), Fail> {
         assert!(rt; pair.profile == request.profile);
         assert!(rt; codes_of(key.public)? == key.codes);
     }
+    Ok(())
+}
+
+#[test]
+fn a_record_is_written_after_what_stands(rt: HostRuntime) -> Result<(), Fail> {
+    let mut out = [7u8; 10];
+    let mut writer = Writer {
+        out: &mut out,
+        at: 2,
+    };
+    writer.put_secret(&[Gf256::from(24), Gf256::from(2)]);
+    let end = writer.at;
+    assert_eq!(rt; end, 9);
+    assert!(rt; out == [7, 7, 0, 0, 0, 3, 1, 24, 2, 7]);
     Ok(())
 }
