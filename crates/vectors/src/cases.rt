@@ -2,7 +2,7 @@
 use crate::repeats;
 use cipher::Aes128;
 use sponge::Sponge;
-use std::alloc::{AllocError, Global};
+use std::alloc::Global;
 use std::error::Error;
 use std::fmt;
 use std::num::ParseIntError;
@@ -47,12 +47,6 @@ impl fmt::Display for Failure {
 }
 
 impl Error for Failure {}
-
-impl From<AllocError> for Failure {
-    fn from(_e: AllocError) -> Failure {
-        Failure::Unreadable
-    }
-}
 
 impl From<hexadecimal::Unreadable> for Failure {
     fn from(_e: hexadecimal::Unreadable) -> Failure {
@@ -126,22 +120,22 @@ fn hash(words: &mut Words) -> Result<Done, Failure> {
     let taken = words.size()?;
     let given = words.size()?;
     let answer = words.bytes()?;
-    if taken == 0 || given == 0 || given.min(answer.len()) > LONGEST_PIECE {
+    if taken == 0 || given == 0 {
         return Err(Failure::Differs);
     }
     let mut sponge = Sponge::new();
     for piece in message.chunks(taken) {
         sponge.absorb(piece).or(Err(Failure::Differs))?;
     }
-    let mut out = vec![in words.heap; 0u8; answer.len()]?;
-    for piece in out.chunks_mut(given) {
-        sponge.squeeze(piece);
+    let mut room = [0u8; LONGEST_PIECE];
+    for piece in answer.chunks(given) {
+        let out = room.get_mut(..piece.len()).ok_or(Failure::Differs)?;
+        sponge.squeeze(out);
+        if &*out != piece {
+            return Err(Failure::Differs);
+        }
     }
-    if out == answer {
-        Ok(Done::Hash)
-    } else {
-        Err(Failure::Differs)
-    }
+    Ok(Done::Hash)
 }
 
 fn repeat(words: &mut Words) -> Result<Done, Failure> {
