@@ -1,7 +1,11 @@
 -- Lists that are worked out place by place. Assumes nothing.
-use Rattle.std.proofs.Common.{◌≡◌, ℕ, zero, suc, ◌+◌, ◌<◌, ◌≤◌, List, [], ◌∷◌, ◌++◌, length, take, drop, sym, refl, ap, ◌∙◌, ap₂, arith}
-use Rattle.std.proofs.lemmas.List.{append-nil, take_all, drop_all}
+use Rattle.std.proofs.Common.{◌≡◌, ℕ, zero, suc, ◌+◌, ◌<◌, ◌≤◌, List, [], ◌∷◌, ◌++◌, length, get_or, take, drop, sym, refl, ap, ◌∙◌, ap₂, arith}
+use Rattle.std.proofs.lemmas.List.{append-nil, drop_more, take_all, drop_all}
 use Rattle.lock.specs.Instances.{listed}
+
+-- what is left from place i on, by the element that was read there
+pub left_is : {X : Type 0} (i : ℕ) (xs : List X) (x : X) → i < length xs → x ≡ get_or xs i x → drop i xs ≡ x ∷ drop (i + 1) xs
+left_is {X} i xs x h e = drop_more xs i x h ∙ ap (λ (y : X). y ∷ drop (i + 1) xs) (sym e)
 
 -- a list that was worked on in place, as far as there is anything left
 pub place_all : {X : Type 0} (after : List X → List X) (all xs : List X) (i : ℕ) → after [] ≡ [] → length xs ≤ i → take i xs ++ after (drop i xs) ≡ all → xs ≡ all

@@ -1,7 +1,8 @@
-use Rattle.std.proofs.Common.{[], ◌∷◌, ◌++◌}
-use Rattle.algebra.specs.Sums.{eval_of}
-use Rattle.lock.proofs.Listed.{Below}
+use Rattle.std.proofs.Common.{◌≡◌, ℕ, drop}
+use Rattle.lock.specs.Instances.{listed}
+use Rattle.weight.proofs.Horner.{valued}
 use Rattle.weight.proofs.locator.fill_locators.Given as goal
 
-abbrev pub invariant-loop-j : goal.invariant-loop-j
-invariant-loop-j g l = let o = g.F.Field.ops in Below (λ j. eval_of o (l.coefficients ++ (l.s ∷ [])) (o.element j)) o.zero l.j l.out
+-- whatever the element is that all places began with
+abbrev pub invariant-loop-t : goal.invariant-loop-t
+invariant-loop-t g l = (s : g.row.F.Denot) (n : ℕ) → l.initial.out ≡ listed (λ _. s) 0 n → l.out ≡ valued g.F.Field.ops (drop l.t l.coefficients) s n
