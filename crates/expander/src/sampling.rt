@@ -53,8 +53,9 @@ impl<S: Stream> Sampler<S> {
     pub fn fill<F: Field>(&mut self, out: &mut [F])
         ensures { Draws S.Stream.gives F.Field.sampled self.old (length out.old) out.new self.new }
     {
-        for x in out.iter_mut() {
-            *x = self.next();
+        // By index, so that an element in another's place is a slip that the check can be asked about.
+        for i in 0..out.len() {
+            out[i] = self.next();
         }
     }
 }

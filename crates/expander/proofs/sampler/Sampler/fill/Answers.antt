@@ -5,13 +5,13 @@ use Rattle.expander.specs.Streams.{drawn, after}
 use Rattle.expander.proofs.Draws.{drawn_join, after_join}
 use Rattle.expander.proofs.sampler.Sampler.fill.Goals as goal
 
-pub loop-x-preserved : goal.loop-x-preserved
-loop-x-preserved g c f k is =
+pub loop-i-preserved : goal.loop-i-preserved
+loop-i-preserved g c f k is =
     let sampled = g.F.Field.sampled in
-    let i = c.loop-x.x-index in
-    let before = c.loop-x.invariant f k is in
+    let i = c.loop-i.i in
+    let before = c.loop-i.invariant f k is in
     let one = c.next.ensures f (after sampled f k i) before.1 in (
-      take_more_set c.loop-x.out i c.next.result (omega arith)
+      take_more_set c.loop-i.out i c.next.result (omega arith)
           ∙ ap (λ (xs : List g.row.F.Denot). xs ++ (c.next.result ∷ [])) before.0
           ∙ ap (λ (x : g.row.F.Denot). drawn sampled f k i ++ (x ∷ [])) one.0
           ∙ sym (drawn_join sampled f k i 1),
