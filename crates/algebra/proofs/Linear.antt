@@ -1,5 +1,5 @@
 -- Sums and sums of products: what is linear, and what a fold computes. Assumes nothing.
-use Rattle.std.proofs.Common.{◌≡◌, ℕ, zero, suc, ◌+◌, List, [], ◌∷◌, ◌++◌, length, reverse, fold, sym, refl, ap, ◌∙◌, ap₂, add-zero, suc-add, zero-add, arith}
+use Rattle.std.proofs.Common.{◌≡◌, ℕ, zero, suc, ◌+◌, ◌≤◌, List, [], ◌∷◌, ◌++◌, length, take, min, reverse, fold, sym, refl, ap, ◌∙◌, ap₂, add-zero, suc-add, zero-add, arith}
 use Rattle.std.specs.List.{zip}
 use Rattle.std.proofs.lemmas.List.{reverse-append}
 use Rattle.std.proofs.lemmas.List.Sums.{fold-append}
@@ -76,6 +76,15 @@ module _ {F : Type 0} {o : Ops F} (laws : Ring o) where
 
   pub dot_by_fold : (z : F) (xs ys : List F) → z ≡ o.zero → fold add_product z (zip xs ys) ≡ dot_of o xs ys
   dot_by_fold z xs ys e = fold_dot z xs ys ∙ ap (λ (s : F). o.plus s (dot_of o xs ys)) e ∙ zero-plus laws (dot_of o xs ys)
+
+  -- what stands beyond the end of the shorter list is in no product
+  pub dot_cut : (n : ℕ) (xs ys : List F) → min (length xs) (length ys) ≤ n → dot_of o (take n xs) (take n ys) ≡ dot_of o xs ys
+  dot_cut zero [] ys h = refl
+  dot_cut zero (x ∷ xs) [] h = refl
+  dot_cut zero (x ∷ xs) (y ∷ ys) h = absurd (omega arith)
+  dot_cut (suc n) [] ys h = refl
+  dot_cut (suc n) (x ∷ xs) [] h = refl
+  dot_cut (suc n) (x ∷ xs) (y ∷ ys) h = ap (o.plus (o.times x y)) (dot_cut n xs ys (omega arith))
 
 -- Horner's rule takes the last coefficient first
 module _ {F : Type 0} (o : Ops F) where

@@ -15,8 +15,11 @@ pub fn total<F: Field>(elements: &[F]) -> F
 pub fn dot<F: Field>(a: &[F], b: &[F]) -> F
     ensures { result ≡ dot_of F.Field.ops a.now b.now }
 {
-    a.iter()
-        .zip(b)
+    // Cut to one length, so that the compiler tests for one end in each turn and not for two.
+    let shorter = a.len().min(b.len());
+    a[..shorter]
+        .iter()
+        .zip(&b[..shorter])
         .fold(F::zero(), |sum, (x, y)| sum.add(x.multiply(*y)))
 }
 
