@@ -16,6 +16,10 @@ same x y e =
     let made : (n : ℕ) → n < 256 → Gf256 = λ n h. record { value = n; ok = h } in
     subst (λ (n : ℕ). (h : n < 256) → x ≡ made n h) e (λ h. ap (made x.value) (le_prop x.ok h)) y.ok
 
+-- the element that a byte stands for
+pub is_at : (x : Gf256) (n : ℕ) → n < 256 → x.value ≡ n → x ≡ at n
+is_at x n h e = same x (at n) (e ∙ sym (mod-eq_of_lt h))
+
 sum : (x y : Gf256) → bit_xor x.value y.value % 256 ≡ bit_xor x.value y.value
 sum x y = mod-eq_of_lt (xor_lt256 x.value y.value x.ok y.ok)
 

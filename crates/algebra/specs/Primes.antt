@@ -1,6 +1,6 @@
 -- The integers modulo 251 keep the laws. Assumes nothing.
-use Rattle.std.specs.Prelude.{◌≡◌, ℕ, zero, suc, ◌+◌, ◌*◌, ◌/◌, ◌%◌, ◌^◌, ◌<◌, ◌≤◌, Bool, true, false, List, [], ◌∷◌, length, take, ◌≢◌, nat_lt, refl}
-use Rattle.std.proofs.Common.{sym, ap, subst, ◌∙◌, mod-eq_of_lt, mul_comm, mul_assoc, mul-add, add-mul, add_comm, div-add-mod', mul-one, arith, lit≤}
+use Rattle.std.specs.Prelude.{◌≡◌, ℕ, zero, suc, ◌+◌, ◌*◌, ◌/◌, ◌%◌, ◌^◌, ◌<◌, ◌≤◌, Bool, true, false, List, [], ◌∷◌, length, take, drop, ◌≢◌, nat_lt, slice_index, refl}
+use Rattle.std.proofs.Common.{sym, ap, ap₂, subst, ◌∙◌, mod-eq_of_lt, mul_comm, mul_assoc, mul-add, add-mul, add_comm, div-add-mod', mul-one, add-zero, add-one, arith, lt-ltb, le-ltb, lit≤, drop_of_length-le, drop-cons}
 use Rattle.std.proofs.Math.Nat.{mod-add-mod, add-mod-mod, mul-add-mod_self_right}
 use Rattle.std.proofs.Math.Bridge.{le_prop}
 use Rattle.theory.proofs.Sweeps.{sweep}
@@ -114,3 +114,29 @@ prime_reads = record {
   most = λ bs l. subst (λ (n : ℕ). (first_below bs).1 ≤ n) l (most bs);
   only = λ bs cs l m e. only bs cs (l ∙ sym m) e;
 }
+
+-- ---- a sample, once i bytes are skipped
+
+abbrev pub skipped : ℕ → Mod251 × ℕ → Mod251 × ℕ
+skipped i rest = (rest.0, i + rest.1)
+
+module _ (bs : List ℕ) (i : ℕ) (within : i < length bs) (inv : first_below bs ≡ skipped i (first_below (drop i bs))) where
+  at_byte : (t : Bool) → nat_lt (slice_index bs i) 251 ≡ t → first_below bs ≡ skipped i (taken t (slice_index bs i) (first_below (drop (suc i) bs)))
+  at_byte t e =
+      inv ∙ ap (λ (l : List ℕ). skipped i (first_below l)) (drop-cons bs i 0 within)
+      ∙ ap (λ (s : Bool). skipped i (taken s (slice_index bs i) (first_below (drop (suc i) bs)))) e
+
+  pub sample_found : (x : Mod251) → x.value ≡ slice_index bs i → slice_index bs i < 251 → (x, i + 1) ≡ first_below bs
+  sample_found x e h =
+      sym (at_byte true (lt-ltb (slice_index bs i) 251 h) ∙ ap (λ (y : Mod251). (y, i + 1)) (same (at (slice_index bs i)) x (mod-eq_of_lt h ∙ sym e)))
+
+  pub sample_more : 251 ≤ slice_index bs i → first_below bs ≡ skipped (i + 1) (first_below (drop (i + 1) bs))
+  sample_more h =
+      at_byte false (le-ltb (slice_index bs i) 251 h)
+      ∙ ap (λ (n : ℕ). ((first_below (drop (suc i) bs)).0, n)) (omega arith)
+      ∙ ap (λ (j : ℕ). skipped (i + 1) (first_below (drop j bs))) (sym (add-one i))
+
+pub sample_all : (bs : List ℕ) (i : ℕ) → length bs ≡ 16 → i ≡ 16 → first_below bs ≡ skipped i (first_below (drop i bs)) → (x : Mod251) → x.value ≡ 0 → (x, 16) ≡ first_below bs
+sample_all bs i l e inv x z =
+    sym (inv ∙ ap (λ (r : List ℕ). skipped i (first_below r)) (drop_of_length-le bs (omega arith))
+    ∙ ap₂ (λ (y : Mod251) (n : ℕ). (y, n)) (same _ x (sym z)) (add-zero i ∙ e))

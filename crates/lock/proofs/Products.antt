@@ -58,7 +58,7 @@ module _ {F : Type 0} {o : Ops F} (laws : Ring o) where
 
 module _ {F : Type 0} (o : Ops F) where
   -- the free elements, and then the others, are the word
-  pub word-parts : Ring o → (p : Problem F) (s : F) (u front out : List F) → front ≡ take p.shape.k u → p.shape.k ≤ length u → p.shape.k < p.shape.m
+  pub word-parts : Ring o → (p : Problem F) (s : F) (u front out : List F) → front ≡ take p.shape.k u → p.shape.k ≤ length u → p.shape.k ≤ p.shape.m
       → length out ≡ p.shape.m - p.shape.k → BoundPart o p s (take p.shape.k u) out → front ++ out ≡ word o p s u
   word-parts laws p s u front out ef hu km lo bound =
       let k = p.shape.k in

@@ -1,6 +1,6 @@
 -- How many equations there are. Assumes nothing.
-use Rattle.std.specs.Prelude.{◌≡◌, ℕ, zero, suc, ◌+◌, ◌-◌, ◌*◌, ◌/◌, length, refl}
-use Rattle.std.proofs.Common.{sym, ap, ap₂, ◌∙◌, zero-mul, suc-mul, mul-suc, arith, length-append}
+use Rattle.std.specs.Prelude.{◌≡◌, ℕ, zero, suc, ◌+◌, ◌-◌, ◌*◌, ◌/◌, ◌<◌, ◌≤◌, length, refl}
+use Rattle.std.proofs.Common.{sym, ap, ap₂, ◌∙◌, zero-mul, suc-mul, mul-suc, mul-le-mul_right, arith, length-append}
 use Rattle.regular.specs.Regular.{pairs_with, pairs, block, blocks, triangle}
 use Rattle.regular.specs.Theorems.{PairsCounted}
 
@@ -37,6 +37,22 @@ triangle-double (suc n) =
 
 pub triangle_half : (n : ℕ) → n * (n - 1) / 2 ≡ triangle n
 triangle_half n = let e = triangle-double n in omega arith
+
+pub product_few : (n : ℕ) → n ≤ 250 → n * (n - 1) ≤ 62250
+product_few n h =
+    let a : n * (n - 1) ≤ 250 * (n - 1) = mul-le-mul_right (n - 1) h in
+    omega arith
+
+pub triangle_left : (n t : ℕ) → t < n → triangle (n - t) ≡ (n - t - 1) + triangle (n - (t + 1))
+triangle_left n t h =
+    let e : n - t ≡ suc (n - (t + 1)) = omega arith in
+    let f : n - (t + 1) ≡ n - t - 1 = omega arith in
+    ap triangle e ∙ ap (λ (k : ℕ). k + triangle (n - (t + 1))) f
+
+pub times_left : (c b n : ℕ) → b < c → (c - b) * n ≡ (c - (b + 1)) * n + n
+times_left c b n h =
+    let e : c - b ≡ suc (c - (b + 1)) = omega arith in
+    ap (λ (k : ℕ). k * n) e ∙ suc-mul (c - (b + 1)) n
 
 pub pairs-counted : PairsCounted
 pairs-counted = record {

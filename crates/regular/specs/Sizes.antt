@@ -1,6 +1,6 @@
 -- What the limits of the regular lock say of its numbers. Assumes nothing.
 use Rattle.std.specs.Prelude.{◌≡◌, ℕ, ◌+◌, ◌*◌, ◌/◌, ◌%◌, ◌≤◌, true, ◌==◌, nat_le, refl}
-use Rattle.std.proofs.Common.{div-le_self, arith}
+use Rattle.std.proofs.Common.{sym, subst, div-le_self, arith}
 use Rattle.std.proofs.Math.Nat.{div-add-mod}
 use Rattle.std.proofs.lemmas.Bool.{and_parts, leb-true, eqb-true}
 use Rattle.algebra.specs.Fields.{Ops}
@@ -33,3 +33,7 @@ sizes o s h =
       even = omega (arith, div-add-mod s.m s.w);
       count = refl;
     }
+
+-- the same of a number that was worked out
+pub sizes_at : {F : Type 0} (o : Ops F) (s : Shape) (n : ℕ) → sound (regular o) s ≡ true → n ≡ side s → Sizes s n
+sizes_at o s n h e = subst (λ (k : ℕ). Sizes s k) (sym e) (sizes o s h)
