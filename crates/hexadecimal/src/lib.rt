@@ -74,14 +74,13 @@ impl<T: Drop> From<AllocFailed<T>> for Unreadable {
 pub fn decode(heap: Global, text: &[u8]) -> Result<Vec<u8>, Unreadable>
     ensures { MatchResult result (λ v. decoded text.now ≡ Some v.items) (λ e. (e ≡ Unreadable.NotHex → decoded text.now ≡ None)) }
 {
-    if text.len() % 2 != 0 {
+    let (pairs, rest) = text.as_chunks::<2>();
+    if !rest.is_empty() {
         return Err(Unreadable::NotHex);
     }
     let mut bytes = Vec::new(heap);
-    let mut rest = text;
-    while let Some((pair, others)) = rest.split_first_chunk::<2>() {
-        bytes.push(byte(pair[0], pair[1]).ok_or(Unreadable::NotHex)?)?;
-        rest = others;
+    for &[high, low] in pairs {
+        bytes.push(byte(high, low).ok_or(Unreadable::NotHex)?)?;
     }
     Ok(bytes)
 }

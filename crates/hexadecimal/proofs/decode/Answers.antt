@@ -1,19 +1,22 @@
-use Rattle.std.proofs.Common.{◌≡◌, ◌/◌, ◌++◌, length, sym, ◌∙◌, rules, arith}
+use Rattle.std.proofs.Common.{◌≡◌, ◌+◌, ◌*◌, ◌/◌, length, sym, ◌∙◌, arith}
+use Rattle.std.proofs.lemmas.Bool.Decides.{nat_tests}
 use Rattle.hexadecimal.specs.Digits.{decoded}
-use Rattle.hexadecimal.proofs.Texts.{before_none, decoded_pair, decoded_odd}
+use Rattle.hexadecimal.proofs.Texts.{before_none, decoded_turn, decoded_odd, decoded_by_pairs}
 use Rattle.hexadecimal.proofs.decode.Goals as goal
 
-pub returns-then-text-ne0 : goal.returns-then-text-ne0
-returns-then-text-ne0 c = λ _. decoded_odd c.args.text.now (length c.args.text.now / 2) (omega arith)
+pub returns-then-not-is_empty : goal.returns-then-not-is_empty
+returns-then-not-is_empty c =
+    let odd : length c.args.text.now ≡ 2 * (length c.args.text.now / 2) + 1 = grind (arith, nat_tests) in
+    λ _. decoded_odd c.args.text.now (length c.args.text.now / 2) odd
 
-pub loop-pair-init : goal.loop-pair-init
-loop-pair-init c = let none = before_none (decoded c.args.text.now) in (c.if-text-ne0.false, cc)
+pub loop-high-init : goal.loop-high-init
+loop-high-init c =
+    let even : length c.args.text.now ≡ 2 * (length c.args.text.now / 2) = grind (arith, nat_tests) in
+    let read = decoded_by_pairs c.args.text.now _ even in
+    let none = before_none (decoded c.args.text.now) in
+    cc
 
-pub loop-pair-preserved : goal.loop-pair-preserved
-loop-pair-preserved c =
-    let cut : c.loop-pair.rest.now ≡ c.in-Some.pair.now ++ c.in-Some.others.now = search rules in
-    let two : length c.in-Some.pair.now ≡ 2 = search rules in (
-      search rules,
-      c.loop-pair.invariant.1
-          ∙ decoded_pair c.in-Some.pair.now c.in-Some.others.now _ _ _ _ cut two (sym c.byte.ensures ∙ c.in_ok-ok_or.ensures.ok_part) c.in_ok-push.ensures.items,
-    )
+pub loop-high-preserved : goal.loop-high-preserved
+loop-high-preserved c =
+    c.loop-high.invariant
+    ∙ decoded_turn c.as_chunks.result.0.now c.loop-high.high-index _ _ _ c.loop-high-test.true (sym c.byte.ensures ∙ c.in_ok-ok_or.ensures.ok_part) c.in_ok-push.ensures.items

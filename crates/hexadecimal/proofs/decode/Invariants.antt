@@ -1,10 +1,7 @@
-use Rattle.std.proofs.Common.{◌≡◌, ◌%◌, length, vec_items}
+use Rattle.std.proofs.Common.{◌≡◌, drop, vec_items}
 use Rattle.hexadecimal.specs.Digits.{decoded}
-use Rattle.hexadecimal.proofs.Texts.{before}
+use Rattle.hexadecimal.proofs.Texts.{before, decoded_pairs}
 use Rattle.hexadecimal.proofs.decode.Given as goal
 
-abbrev pub decreases-loop-pair : goal.decreases-loop-pair
-decreases-loop-pair l = length l.rest
-
-abbrev pub invariant-loop-pair : goal.invariant-loop-pair
-invariant-loop-pair l = (length l.rest % 2 ≡ 0) × (decoded l.text ≡ before (vec_items l.bytes) (decoded l.rest))
+abbrev pub invariant-loop-high : goal.invariant-loop-high
+invariant-loop-high l = decoded l.text ≡ before (vec_items l.bytes) (decoded_pairs (drop l.high-index l.pairs))
