@@ -13,7 +13,7 @@ abbrev number : ℕ → ℕ → ℕ → ℕ → ℕ
 number a0 a1 a2 a3 = a0 + a1 * 256 + a2 * 65536 + a3 * 16777216
 
 -- a number made of four bytes has those bytes
-number_of : (a : List ℕ) (n : ℕ) → Below 256 a → n ≡ number (get_or a 0 0) (get_or a 1 0) (get_or a 2 0) (get_or a 3 0) → NumberOf a n
+pub number_of : (a : List ℕ) (n : ℕ) → Below 256 a → n ≡ number (get_or a 0 0) (get_or a 1 0) (get_or a 2 0) (get_or a 3 0) → NumberOf a n
 number_of a n h e = record { fits = omega arith; first = omega arith; second = omega arith; third = omega arith; fourth = omega arith }
 
 -- a number is what its bytes make

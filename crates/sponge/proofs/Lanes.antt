@@ -23,7 +23,7 @@ lower b v j h lt =
     ∙ ap (λ x. v * x + b * 2 ^ (8 * j)) (pow-add 2 8 (8 * j))
     ∙ grind arith
 
-mixed_lane : (bs : List ℕ) (q j : ℕ) (s : List ℕ) → ((i : ℕ) → get_or bs i 0 < 256) → j + length bs ≤ 8 → q < length s
+pub mixed_lane : (bs : List ℕ) (q j : ℕ) (s : List ℕ) → ((i : ℕ) → get_or bs i 0 < 256) → j + length bs ≤ 8 → q < length s
     → mixed (8 * q + j) bs s ≡ set s q (bit_xor (get_or s q 0) (value bs * 2 ^ (8 * j)))
 unfolding mixed with_byte
 mixed_lane [] q j s small le lt =
@@ -44,7 +44,7 @@ mixed_lane (b ∷ bs) q j s small le lt =
     ∙ ap (set s q) (xor_assoc x y z ∙ ap (bit_xor x) (lower b (value bs) j (small 0) (omega arith)))
 
 -- a list of eight is its members
-eight : (bs : List ℕ) → length bs ≡ 8 → bs ≡ map (λ j. get_or bs j 0) (range_with_len 0 8)
+pub eight : (bs : List ℕ) → length bs ≡ 8 → bs ≡ map (λ j. get_or bs j 0) (range_with_len 0 8)
 eight bs long = fill_by_all (λ j. get_or bs j 0) bs 8 0 long (λ k lt. refl)
 
 value_eight : (bs : List ℕ) → length bs ≡ 8 → value bs ≡ from_le_bytes w64 bs
