@@ -1,5 +1,10 @@
 // Keys that another implementation made: each is made again from its profile, its seed and its word, and read back. And a record that is
 // written after what stands already.
+ghost use Rattle.std.specs.Prelude.{◌≡◌, ◌+◌, ◌<◌, ◌≤◌, length};
+ghost use Rattle.algebra.specs.Binary.{binary};
+ghost use Rattle.records.specs.Formats.{Puts};
+ghost use Rattle.records.specs.Secrets.{secret_bytes};
+
 use crate::{codes_of, make_key, read_pair, read_public};
 use algebra::Gf256;
 use keys::KeyRequest;
@@ -84,15 +89,22 @@ fn keys_are_made_and_read(rt: HostRuntime) -> Result<(), Fail> {
     Ok(())
 }
 
+// A secret record from a place on, and the place after it.
+fn write_secret(out: &mut [u8], at: usize, u: &[Gf256]) -> usize
+    requires few { length u.now < 65536 }
+    requires room { at + (5 + length u.now) ≤ length out.old }
+    ensures place { result ≡ at + (5 + length u.now) }
+    ensures after { Puts out.old at (secret_bytes binary u.now) out.new }
+{
+    let mut writer = Writer { out, at };
+    writer.put_secret(u);
+    writer.at
+}
+
 #[test]
 fn a_record_is_written_after_what_stands(rt: HostRuntime) -> Result<(), Fail> {
     let mut out = [7u8; 10];
-    let mut writer = Writer {
-        out: &mut out,
-        at: 2,
-    };
-    writer.put_secret(&[Gf256::from(24), Gf256::from(2)]);
-    let end = writer.at;
+    let end = write_secret(&mut out, 2, &[Gf256::from(24), Gf256::from(2)]);
     assert_eq!(rt; end, 9);
     assert!(rt; out == [7, 7, 0, 0, 0, 3, 1, 24, 2, 7]);
     Ok(())
